@@ -1,0 +1,204 @@
+-- Document 01, "Numbered answers": "The lowest number that applies is given, and only then."
+use Prim.Native.Nat.{ℕ, min, _+_, _/_, _^_}
+use mathlib.Core.Bool.{Bool, true, false, cond, not, _&&_, _||_}
+use mathlib.Core.List.{List, [], _∷_}
+use lib.Dec.{eqb, ltb}
+use lib.ListN.{length}
+use Rattle.model.specs.declared.Context.{Context}
+use Rattle.model.specs.declared.Ept.{Ept}
+use Rattle.model.specs.declared.Ept.the-variants.{Off, On}
+use Rattle.model.specs.declared.Mapping.{Mapping}
+use Rattle.model.specs.declared.Event.{Event}
+use Rattle.model.specs.declared.Event.the-variants.{Creation, Invvpid, Invept, Invlpg, EptViolation, Entry, Exit, Vmxon, Vmxoff, NewPcid, Reset}
+use Rattle.model.specs.declared.Operands.{Operands}
+use Rattle.model.specs.declared.Entry
+use Rattle.model.specs.Bits.{bits, bit}
+use Rattle.model.specs.Context.{in-range, outside, in-root, in-guest, current-vpid, current-ept}
+use Rattle.model.specs.Layouts.{kind-of, mapping-kind}
+use Rattle.model.specs.Mappings.{linear, guest-physical, combined}
+use Rattle.model.specs.Tables.{limit, whole}
+use Rattle.model.specs.Events.{canonical, event, valid-event}
+use Rattle.model.specs.Scopes.{current-ep4ta, vpid-named}
+
+-- the number of the first ground that applies, or 0
+unfoldable pub first : List (ℕ × Bool) → ℕ
+first [] = 0
+first (ground ∷ grounds) = cond (ground .1) (ground .0) (first grounds)
+
+-- the kind is one of a list
+abbrev pub among : ℕ → List ℕ → Bool
+among kind [] = false
+among kind (k ∷ ks) = eqb kind k || among kind ks
+
+-- the kind of an event
+unfoldable pub kind-number : Event → ℕ
+kind-number (Creation m) = m .kind
+kind-number (Invvpid o) = 16
+kind-number (Invept o) = 17
+kind-number (Invlpg address) = 18
+kind-number (EptViolation v) = 19
+kind-number (Entry n) = 20
+kind-number (Exit pcid) = 21
+kind-number Vmxon = 22
+kind-number Vmxoff = 23
+kind-number (NewPcid n) = 24
+kind-number Reset = 25
+
+-- "An EPTP is good if bits 2:0 are 0 with capability bit 8 or 6 with bit 14; bits 5:3 are 3 with bit
+-- 6; its bit 6 is clear or capability bit 21 set; bits 11:7 and 63:N are zero." An EPTP has 64 bits,
+-- so that 63:N are zero says that it is below 2^N.
+unfoldable pub good-eptp : Context → ℕ → Bool
+good-eptp c eptp =
+    ((eqb (bits 2 0 eptp) 0 && bit 8 (c .capability)) || (eqb (bits 2 0 eptp) 6 && bit 14 (c .capability)))
+    && (eqb (bits 5 3 eptp) 3 && bit 6 (c .capability))
+    && (not (bit 6 eptp) || bit 21 (c .capability))
+    && eqb (bits 11 7 eptp) 0
+    && eqb (eptp / 2 ^ c .width) 0
+
+-- the INVVPID types and their capability bits: "40, 41, 42, 43 for types 0 to 3"
+unfoldable pub invvpid-supported : ℕ → ℕ → Bool
+invvpid-supported capability type =
+    cond (eqb type 0) (bit 40 capability)
+    (cond (eqb type 1) (bit 41 capability)
+    (cond (eqb type 2) (bit 42 capability)
+    (cond (eqb type 3) (bit 43 capability) false)))
+
+-- "Answer 8, INVVPID": the type; "descriptor bits 63:16 not zero, for every type; VPID 0 with type 0,
+-- 1 or 3; a non-canonical address with type 0" (002, Operation)
+unfoldable pub bad-invvpid : Context → Operands → Bool
+bad-invvpid c o =
+    not (invvpid-supported (c .capability) (o .«type_number»))
+    || not (eqb (bits 63 16 (o .low)) 0)
+    || (eqb (vpid-named o) 0 && not (eqb (o .«type_number») 2))
+    || (eqb (o .«type_number») 0 && not (canonical (o .high)))
+
+-- "a type other than 1 (bit 25) or 2 (bit 26)"
+unfoldable pub invept-supported : ℕ → ℕ → Bool
+invept-supported capability type =
+    cond (eqb type 1) (bit 25 capability)
+    (cond (eqb type 2) (bit 26 capability) false)
+
+-- "INVEPT: [the type], or its bit clear; descriptor bits 127:64 not zero; a bad EPTP with type 1"
+unfoldable pub bad-invept : Context → Operands → Bool
+bad-invept c o =
+    not (invept-supported (c .capability) (o .«type_number»))
+    || not (eqb (o .high) 0)
+    || (eqb (o .«type_number») 1 && not (good-eptp c (o .low)))
+
+-- 5, "#UD: kinds 16, 17, 20, 23 outside VMX; 16 with capability bit 32 clear, 17 with bit 20 clear"
+unfoldable pub invalid-opcode : Context → Event → Bool
+invalid-opcode c e =
+    (among (kind-number e) (16 ∷ 17 ∷ 20 ∷ 23 ∷ []) && outside (c .place))
+    || (eqb (kind-number e) 16 && not (bit 32 (c .capability)))
+    || (eqb (kind-number e) 17 && not (bit 20 (c .capability)))
+
+-- 6, "VM exit: kinds 16, 17, 20, 22, 23 in a guest"
+unfoldable pub exits : Context → Event → Bool
+exits c e = among (kind-number e) (16 ∷ 17 ∷ 20 ∷ 22 ∷ 23 ∷ []) && in-guest (c .place)
+
+-- 7, "#GP(0): kinds 16, 17, 18, 20, 22, 23 with CPL above 0"
+unfoldable pub general-protection : Context → Event → Bool
+general-protection c e = among (kind-number e) (16 ∷ 17 ∷ 18 ∷ 20 ∷ 22 ∷ 23 ∷ []) && ltb 0 (c .cpl)
+
+-- 8, "VMfail, invalid operand"
+unfoldable pub invalid-operand : Context → Event → Bool
+invalid-operand c (Creation m) = false
+invalid-operand c (Invvpid o) = bad-invvpid c o
+invalid-operand c (Invept o) = bad-invept c o
+invalid-operand c (Invlpg address) = false
+invalid-operand c (EptViolation v) = false
+invalid-operand c (Entry n) = false
+invalid-operand c (Exit pcid) = false
+invalid-operand c Vmxon = false
+invalid-operand c Vmxoff = false
+invalid-operand c (NewPcid n) = false
+invalid-operand c Reset = false
+
+-- EPT is in use
+unfoldable pub ept-in-use : Ept → Bool
+ept-in-use Off = false
+ept-in-use (On ep4ta) = true
+
+-- 9, "VMXON in root; VM exit not in a guest; EPT violation not in a guest with EPT"
+unfoldable pub out-of-place : Context → Event → Bool
+out-of-place c e =
+    (eqb (kind-number e) 22 && in-root (c .place))
+    || (eqb (kind-number e) 21 && not (in-guest (c .place)))
+    || (eqb (kind-number e) 19 && not (ept-in-use (current-ept (c .place))))
+
+-- "VM entry: VPIDs enabled with VPID 0, or EPT enabled with a bad EPTP"
+unfoldable pub bad-entry : Context → Entry.Entry → Bool
+bad-entry c n = (eqb (n .vpids) 1 && eqb (n .vpid) 0) || (eqb (n .ept) 1 && not (good-eptp c (n .eptp)))
+
+-- 10, of a VM entry
+unfoldable pub entry-fails : Context → Event → Bool
+entry-fails c (Creation m) = false
+entry-fails c (Invvpid o) = false
+entry-fails c (Invept o) = false
+entry-fails c (Invlpg address) = false
+entry-fails c (EptViolation v) = false
+entry-fails c (Entry n) = bad-entry c n
+entry-fails c (Exit pcid) = false
+entry-fails c Vmxon = false
+entry-fails c Vmxoff = false
+entry-fails c (NewPcid n) = false
+entry-fails c Reset = false
+
+-- "Creation: kinds 1 and 4 need EPT not in use and the current VPID and PCID. Kinds 2 and 5 need EPT
+-- in use and the current EP4TA. Kinds 3 and 6 need EPT in use and all three tags current." (000,
+-- 29.4.2)
+unfoldable pub creatable : Context → Mapping → Bool
+creatable c m =
+    (linear (m .kind)
+    && not (ept-in-use (current-ept (c .place)))
+    && eqb (m .vpid) (current-vpid (c .place))
+    && eqb (m .pcid) (c .pcid))
+    || (guest-physical (m .kind) && current-ep4ta (current-ept (c .place)) (m .ep4ta))
+    || (combined (m .kind)
+    && current-ep4ta (current-ept (c .place)) (m .ep4ta)
+    && eqb (m .vpid) (current-vpid (c .place))
+    && eqb (m .pcid) (c .pcid))
+
+-- 11, "a mapping that cannot be created here"
+unfoldable pub creation-fails : Context → Event → Bool
+creation-fails c (Creation m) = not (creatable c m)
+creation-fails c (Invvpid o) = false
+creation-fails c (Invept o) = false
+creation-fails c (Invlpg address) = false
+creation-fails c (EptViolation v) = false
+creation-fails c (Entry n) = false
+creation-fails c (Exit pcid) = false
+creation-fails c Vmxon = false
+creation-fails c Vmxoff = false
+creation-fails c (NewPcid n) = false
+creation-fails c Reset = false
+
+-- the bytes that an event adds to the table: a creation's own
+unfoldable pub created : List ℕ → List ℕ
+created e = cond (mapping-kind (kind-of e)) e []
+
+-- 12, "the new buffer, or 45,056, is less than the old table's length, plus the record's length for a
+-- creation"; room is the length of the new buffer
+unfoldable pub no-room : ℕ → List ℕ → List ℕ → Bool
+no-room room t e = ltb (min room limit) (length t + length (created e))
+
+-- the grounds of each number for a context, an old table, an event and the length of the new buffer
+unfoldable pub grounds : Context → List ℕ → List ℕ → ℕ → List (ℕ × Bool)
+grounds c t e room =
+    (1, not (in-range c))
+    ∷ (2, ltb limit (length t))
+    ∷ (3, not (whole t))
+    ∷ (4, not (valid-event e))
+    ∷ (5, invalid-opcode c (event e))
+    ∷ (6, exits c (event e))
+    ∷ (7, general-protection c (event e))
+    ∷ (8, invalid-operand c (event e))
+    ∷ (9, out-of-place c (event e))
+    ∷ (10, entry-fails c (event e))
+    ∷ (11, creation-fails c (event e))
+    ∷ (12, no-room room t e)
+    ∷ []
+
+-- the numbered answer
+unfoldable pub answer : Context → List ℕ → List ℕ → ℕ → ℕ
+answer c t e room = first (grounds c t e room)

@@ -1,0 +1,20 @@
+-- Bits and little-endian numbers.
+use Prim.Native.Nat.{ℕ, zero, suc, _+_, _-_, _*_, _/_, _%_, _^_}
+use mathlib.Core.Bool.{Bool}
+use mathlib.Core.List.{List}
+use lib.Dec.{eqb}
+use lib.ListN.{getD}
+
+-- bits high to low of x, as the manual numbers them
+abbrev pub bits : ℕ → ℕ → ℕ → ℕ
+bits high low x = x / 2 ^ low % 2 ^ (high + 1 - low)
+
+-- bit n of x is set
+abbrev pub bit : ℕ → ℕ → Bool
+bit n x = eqb (x / 2 ^ n % 2) 1
+
+-- the little-endian number of n bytes at a position; bytes past the end count as 0
+abbrev pub number : ℕ → ℕ → List ℕ → ℕ
+number zero at r = 0
+number (suc zero) at r = getD r at 0
+number (suc (suc n)) at r = getD r at 0 + 256 * number (suc n) (at + 1) r

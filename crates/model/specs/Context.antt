@@ -1,0 +1,69 @@
+-- Document 01, "Context".
+use Prim.Native.Nat.{ℕ, _^_}
+use mathlib.Core.Bool.{Bool, true, false, _&&_}
+use lib.Dec.{leb, ltb}
+use Rattle.model.specs.declared.Context.{Context}
+use Rattle.model.specs.declared.Place.{Place}
+use Rattle.model.specs.declared.Place.the-variants.{Outside, Root, Guest}
+use Rattle.model.specs.declared.Ept.{Ept}
+use Rattle.model.specs.declared.Ept.the-variants.{Off, On}
+
+-- "PCID: 0 to 4,095", of a context, a record and an event alike
+abbrev pub pcid-in-range : ℕ → Bool
+pcid-in-range pcid = leb pcid 4095
+
+-- "CPL: 0 to 3"
+abbrev pub cpl-in-range : ℕ → Bool
+cpl-in-range cpl = leb cpl 3
+
+-- an EPT state is off or "an EP4TA below 2^40"
+unfoldable pub ept-in-range : Ept → Bool
+ept-in-range Off = true
+ept-in-range (On ep4ta) = ltb ep4ta (2 ^ 40)
+
+-- "A guest place carries a VPID and an EPT state"; "VPID: 0 to 65,535"
+unfoldable pub place-in-range : Place → Bool
+place-in-range Outside = true
+place-in-range Root = true
+place-in-range (Guest guest) = leb (guest .vpid) 65535 && ept-in-range (guest .ept)
+
+-- every field is in its range; the capability is any number
+unfoldable pub in-range : Context → Bool
+in-range c =
+    leb 36 (c .width)
+    && leb (c .width) 52
+    && pcid-in-range (c .pcid)
+    && cpl-in-range (c .cpl)
+    && place-in-range (c .place)
+
+-- the three places, as tests
+unfoldable pub outside : Place → Bool
+outside Outside = true
+outside Root = false
+outside (Guest guest) = false
+
+unfoldable pub in-root : Place → Bool
+in-root Outside = false
+in-root Root = true
+in-root (Guest guest) = false
+
+unfoldable pub in-guest : Place → Bool
+in-guest Outside = false
+in-guest Root = false
+in-guest (Guest guest) = true
+
+-- "The current VPID is 0 outside and in root"; in a guest it is the guest's
+unfoldable pub current-vpid : Place → ℕ
+current-vpid Outside = 0
+current-vpid Root = 0
+current-vpid (Guest guest) = guest .vpid
+
+-- EPT is in use only in a guest whose EPT state is not off
+unfoldable pub current-ept : Place → Ept
+current-ept Outside = Off
+current-ept Root = Off
+current-ept (Guest guest) = guest .ept
+
+-- "After a reset: outside, PCID 0, CPL 0; capability and N stay."
+unfoldable pub after-reset : Context → Context
+after-reset c = record { capability = c .capability; width = c .width; pcid = 0; cpl = 0; place = Outside }

@@ -1,0 +1,115 @@
+-- Document 01, the two tables of kinds: "Mapping records" and "Events". Every layout is a row of
+-- these tables, and one reader, `field`, serves them all.
+use Prim.Native.Nat.{ℕ, zero, suc, _+_}
+use mathlib.Core.Bool.{Bool, true, false, cond}
+use mathlib.Core.List.{List, [], _∷_, _++_}
+use lib.Dec.{eqb}
+use lib.ListN.{getD}
+use Rattle.model.specs.Bits.{number}
+
+-- The fields of records and events. `frame` is a structure cache's structure too; `low` and `high`
+-- are the two quadwords of a descriptor, low first.
+pub data Field : Type 0 where
+  vpid pcid global span page frame ep4ta : Field
+  type-number low high : Field
+  linear-address guest-physical-address linear-flag : Field
+  vpid-enable ept-enable eptp cpl : Field
+
+-- fields are told apart by their place in that list
+abbrev pub place-of : Field → ℕ
+place-of vpid = 0
+place-of pcid = 1
+place-of global = 2
+place-of span = 3
+place-of page = 4
+place-of frame = 5
+place-of ep4ta = 6
+place-of type-number = 7
+place-of low = 8
+place-of high = 9
+place-of linear-address = 10
+place-of guest-physical-address = 11
+place-of linear-flag = 12
+place-of vpid-enable = 13
+place-of ept-enable = 14
+place-of eptp = 15
+place-of cpl = 16
+
+-- a body: its fields in order, with bytes
+abbrev pub Body : Type 0
+Body = List (Field × ℕ)
+
+-- "kind | mapping | body, in order, with bytes"
+abbrev pub mapping-kinds : List (ℕ × Body)
+mapping-kinds =
+    (1, (vpid, 2) ∷ (pcid, 2) ∷ (global, 1) ∷ (span, 1) ∷ (page, 5) ∷ (frame, 5) ∷ [])
+    ∷ (2, (ep4ta, 5) ∷ (span, 1) ∷ (page, 5) ∷ (frame, 5) ∷ [])
+    ∷ (3, (vpid, 2) ∷ (pcid, 2) ∷ (global, 1) ∷ (span, 1) ∷ (page, 5) ∷ (frame, 5) ∷ (ep4ta, 5) ∷ [])
+    ∷ (4, (vpid, 2) ∷ (pcid, 2) ∷ (span, 1) ∷ (page, 5) ∷ (frame, 5) ∷ [])
+    ∷ (5, (ep4ta, 5) ∷ (span, 1) ∷ (page, 5) ∷ (frame, 5) ∷ [])
+    ∷ (6, (vpid, 2) ∷ (pcid, 2) ∷ (span, 1) ∷ (page, 5) ∷ (frame, 5) ∷ (ep4ta, 5) ∷ [])
+    ∷ []
+
+-- "kind | event | body": the events besides the creations
+abbrev pub event-kinds : List (ℕ × Body)
+event-kinds =
+    (16, (type-number, 8) ∷ (low, 8) ∷ (high, 8) ∷ [])
+    ∷ (17, (type-number, 8) ∷ (low, 8) ∷ (high, 8) ∷ [])
+    ∷ (18, (linear-address, 8) ∷ [])
+    ∷ (19, (guest-physical-address, 8) ∷ (linear-flag, 1) ∷ (linear-address, 8) ∷ [])
+    ∷ (20, (vpid-enable, 1) ∷ (vpid, 2) ∷ (ept-enable, 1) ∷ (eptp, 8) ∷ (pcid, 2) ∷ (cpl, 1) ∷ [])
+    ∷ (21, (pcid, 2) ∷ [])
+    ∷ (22, [])
+    ∷ (23, [])
+    ∷ (24, (pcid, 2) ∷ (cpl, 1) ∷ [])
+    ∷ (25, [])
+    ∷ []
+
+-- the kind has a row in a table of kinds
+abbrev pub known-in : List (ℕ × Body) → ℕ → Bool
+known-in [] kind = false
+known-in (row ∷ rows) kind = cond (eqb kind (row .0)) true (known-in rows kind)
+
+-- its body there; no field where the kind is unknown
+abbrev pub body-in : List (ℕ × Body) → ℕ → Body
+body-in [] kind = []
+body-in (row ∷ rows) kind = cond (eqb kind (row .0)) (row .1) (body-in rows kind)
+
+-- how many bytes a body has
+abbrev pub bytes-of : Body → ℕ
+bytes-of [] = 0
+bytes-of (f ∷ fs) = f .1 + bytes-of fs
+
+-- where a field starts in a body, and how many bytes it has; 0 bytes where the body lacks it
+abbrev pub offset-in : Body → Field → ℕ
+offset-in [] f = 0
+offset-in (g ∷ gs) f = cond (eqb (place-of f) (place-of (g .0))) 0 (g .1 + offset-in gs f)
+
+abbrev pub width-in : Body → Field → ℕ
+width-in [] f = 0
+width-in (g ∷ gs) f = cond (eqb (place-of f) (place-of (g .0))) (g .1) (width-in gs f)
+
+-- "One byte of kind": the first; 0, which is no kind, where there is no byte
+unfoldable pub kind-of : List ℕ → ℕ
+kind-of r = getD r 0 0
+
+-- the kind is a mapping's
+unfoldable pub mapping-kind : ℕ → Bool
+mapping-kind kind = known-in mapping-kinds kind
+
+-- the kind is an event's, a creation's among them
+unfoldable pub event-kind : ℕ → Bool
+event-kind kind = known-in (mapping-kinds ++ event-kinds) kind
+
+-- the body of a kind of event, a mapping's among them
+unfoldable pub body-of : ℕ → Body
+body-of kind = body-in (mapping-kinds ++ event-kinds) kind
+
+-- the length of a record or event of a known kind, its kind byte with it
+unfoldable pub length-of : ℕ → ℕ
+length-of kind = 1 + bytes-of (body-of kind)
+
+-- "Little-endian": a field of the record or event that starts at the front of r; 0 where its kind
+-- has no such field
+unfoldable pub field : Field → List ℕ → ℕ
+field f r = number (width-in (body-of (kind-of r)) f) (1 + offset-in (body-of (kind-of r)) f) r

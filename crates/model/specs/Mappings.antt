@@ -1,0 +1,74 @@
+-- Document 01, "Mapping records": what a record says, when it is valid, and what it covers.
+use Prim.Native.Nat.{ℕ, _*_, _/_, _%_, _^_}
+use mathlib.Core.Bool.{Bool, cond, _&&_, _||_}
+use mathlib.Core.List.{List}
+use lib.Dec.{eqb, leb, ltb}
+use lib.ListN.{length}
+use Rattle.model.specs.declared.Mapping.{Mapping}
+use Rattle.model.specs.declared.Reading.{Reading}
+use Rattle.model.specs.declared.Reading.the-variants.{Record, Nothing}
+use Rattle.model.specs.Context.{pcid-in-range}
+use Rattle.model.specs.Layouts.{Field, field, kind-of, mapping-kind, length-of}
+
+-- "Each record is read as the part of the table that starts at its kind byte": the mapping that
+-- starts at the front of r
+unfoldable pub mapping : List ℕ → Mapping
+mapping r =
+    record {
+      kind = kind-of r;
+      vpid = field Field.vpid r;
+      pcid = field Field.pcid r;
+      global = field Field.global r;
+      span = field Field.span r;
+      page = field Field.page r;
+      frame = field Field.frame r;
+      ep4ta = field Field.ep4ta r;
+    }
+
+-- the manual's three functions of a mapping (29.4.1), each a translation or a structure cache
+abbrev pub linear : ℕ → Bool
+linear kind = eqb kind 1 || eqb kind 4
+
+abbrev pub guest-physical : ℕ → Bool
+guest-physical kind = eqb kind 2 || eqb kind 5
+
+abbrev pub combined : ℕ → Bool
+combined kind = eqb kind 3 || eqb kind 6
+
+-- "Span s is 0 to 2 for kinds 1 to 3 and 1 to 3 for kinds 4 to 6."
+abbrev pub span-in-range : ℕ → ℕ → Bool
+span-in-range kind span = cond (leb kind 3) (leb span 2) (leb 1 span && leb span 3)
+
+-- how many pages a span has: 2^(9s)
+abbrev pub pages : ℕ → ℕ
+pages span = 2 ^ (9 * span)
+
+-- "Page is below 2^36." "Page is a multiple of 2^(9s)."
+abbrev pub page-in-range : ℕ → ℕ → Bool
+page-in-range span page = ltb page (2 ^ 36) && eqb (page % pages span) 0
+
+-- "Global is 0 or 1. PCID is at most 4,095.", span and page. Frames and structures are any 5 bytes;
+-- a field that the kind lacks is 0, and so in its range.
+unfoldable pub fields-in-range : Mapping → Bool
+fields-in-range m =
+    leb (m .global) 1
+    && pcid-in-range (m .pcid)
+    && span-in-range (m .kind) (m .span)
+    && page-in-range (m .span) (m .page)
+
+-- a whole, valid record starts at the front of r
+unfoldable pub starts-record : List ℕ → Bool
+starts-record r = mapping-kind (kind-of r) && leb (length-of (kind-of r)) (length r) && fields-in-range (mapping r)
+
+-- the length of the record that starts at the front of r; 0 where none starts there
+unfoldable pub record-length : List ℕ → ℕ
+record-length r = cond (starts-record r) (length-of (kind-of r)) 0
+
+-- what the record reader answers of the bytes r
+unfoldable pub reading : List ℕ → Reading
+reading r = cond (starts-record r) (Record (mapping r) (length-of (kind-of r))) Nothing
+
+-- "A record covers page p if p and its page have equal quotients by 2^(9s)." Stated once, over the
+-- span, for any pages.
+unfoldable pub covers : ℕ → ℕ → ℕ → Bool
+covers span page p = eqb (p / pages span) (page / pages span)
