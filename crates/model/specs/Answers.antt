@@ -1,7 +1,7 @@
 -- Document 01, "Numbered answers": "The lowest number that applies is given, and only then."
 use Prim.Native.Nat.{ℕ, min, _+_, _/_, _^_}
 use mathlib.Core.Bool.{Bool, true, false, cond, not, _&&_, _||_}
-use mathlib.Core.List.{List, [], _∷_}
+use mathlib.Core.List.{List, [], _∷_, _++_}
 use lib.Dec.{eqb, ltb}
 use lib.ListN.{length}
 use Rattle.model.specs.declared.Context.{Context}
@@ -28,10 +28,11 @@ first (ground ∷ grounds) = cond (ground .1) (ground .0) (first grounds)
 -- the kind is one of a list
 abbrev pub among : ℕ → List ℕ → Bool
 among kind [] = false
-among kind (k ∷ ks) = eqb kind k || among kind ks
+among kind (k ∷ []) = eqb kind k
+among kind (k ∷ l ∷ ks) = eqb kind k || among kind (l ∷ ks)
 
 -- the kind of an event
-unfoldable pub kind-number : Event → ℕ
+abbrev pub kind-number : Event → ℕ
 kind-number (Creation m) = m .kind
 kind-number (Invvpid o) = 16
 kind-number (Invept o) = 17
@@ -115,7 +116,7 @@ invalid-operand c (NewPcid n) = false
 invalid-operand c Reset = false
 
 -- EPT is in use
-unfoldable pub ept-in-use : Ept → Bool
+abbrev pub ept-in-use : Ept → Bool
 ept-in-use Off = false
 ept-in-use (On ep4ta) = true
 
@@ -182,22 +183,34 @@ created e = cond (mapping-kind (kind-of e)) e []
 unfoldable pub no-room : ℕ → List ℕ → List ℕ → Bool
 no-room room t e = ltb (min room limit) (length t + length (created e))
 
--- the grounds of each number for a context, an old table, an event and the length of the new buffer
+-- 1 to 3, of the context and the old table
+unfoldable pub table-grounds : Context → List ℕ → List (ℕ × Bool)
+table-grounds c t = (1, not (in-range c)) ∷ (2, ltb limit (length t)) ∷ (3, not (whole t)) ∷ []
+
+-- 5 to 11, of the context and the event
+unfoldable pub event-grounds : Context → Event → List (ℕ × Bool)
+event-grounds c e =
+    (5, invalid-opcode c e)
+    ∷ (6, exits c e)
+    ∷ (7, general-protection c e)
+    ∷ (8, invalid-operand c e)
+    ∷ (9, out-of-place c e)
+    ∷ (10, entry-fails c e)
+    ∷ (11, creation-fails c e)
+    ∷ []
+
+-- the answer that context and event alone give: 5 to 11, or 0
+unfoldable pub event-answer : Context → Event → ℕ
+event-answer c e = first (event-grounds c e)
+
+-- the numbers in order, each with its ground: of a context, an old table, an event and the length of
+-- the new buffer
 unfoldable pub grounds : Context → List ℕ → List ℕ → ℕ → List (ℕ × Bool)
 grounds c t e room =
-    (1, not (in-range c))
-    ∷ (2, ltb limit (length t))
-    ∷ (3, not (whole t))
-    ∷ (4, not (valid-event e))
-    ∷ (5, invalid-opcode c (event e))
-    ∷ (6, exits c (event e))
-    ∷ (7, general-protection c (event e))
-    ∷ (8, invalid-operand c (event e))
-    ∷ (9, out-of-place c (event e))
-    ∷ (10, entry-fails c (event e))
-    ∷ (11, creation-fails c (event e))
-    ∷ (12, no-room room t e)
-    ∷ []
+    table-grounds c t
+    ++ ((4, not (valid-event e)) ∷ [])
+    ++ event-grounds c (event e)
+    ++ ((12, no-room room t e) ∷ [])
 
 -- the numbered answer
 unfoldable pub answer : Context → List ℕ → List ℕ → ℕ → ℕ

@@ -8,13 +8,13 @@ use lib.Dec.{eqb}
 use Rattle.model.specs.declared.Context.{Context}
 use Rattle.model.specs.declared.Place.the-variants.{Outside, Root, Guest}
 use Rattle.model.specs.declared.Ept.the-variants.{Off, On}
-use Rattle.model.specs.Context.{in-range, place-in-range, ept-in-range, outside, in-root, in-guest, current-vpid, current-ept, after-reset}
+use Rattle.model.specs.Context.{in-range, after-reset}
 use Rattle.model.specs.Layouts.{kind-of, mapping-kind, event-kind, body-of, length-of, field}
 use Rattle.model.specs.Mappings.{mapping, fields-in-range, starts-record, record-length, covers}
 use Rattle.model.specs.Tables.{limit, joined, cut, records-within, records, whole, only, count}
 use Rattle.model.specs.Events.{canonical, operands, violation, entry, new-pcid, event, event-in-range, valid-event}
-use Rattle.model.specs.Scopes.{current-ep4ta, invvpid-scope, invept-scope, invlpg-scope, guest-physical-violation-scope, combined-violation-scope, transition-scope, scope, entered, next-context}
-use Rattle.model.specs.Answers.{first, kind-number, good-eptp, invvpid-supported, bad-invvpid, invept-supported, bad-invept, invalid-opcode, exits, general-protection, invalid-operand, ept-in-use, out-of-place, bad-entry, entry-fails, creatable, creation-fails, created, no-room, grounds, answer}
+use Rattle.model.specs.Scopes.{invvpid-scope, invept-scope, invlpg-scope, guest-physical-violation-scope, combined-violation-scope, transition-scope, scope, entered, next-context}
+use Rattle.model.specs.Answers.{first, good-eptp, invvpid-supported, bad-invvpid, invept-supported, bad-invept, invalid-opcode, exits, general-protection, invalid-operand, out-of-place, bad-entry, entry-fails, creatable, creation-fails, created, no-room, table-grounds, event-grounds, grounds, answer}
 use Rattle.model.specs.Steps.{new-table, dropped-count, stepped}
 
 -- n bytes of a number, little-endian
@@ -157,5 +157,5 @@ further =
 
 -- Every row holds.
 cards-hold : all (starred ++ further) ≡ true
-unfolding bytes same holds all without-21 program root root-of-width root-without-21 guest A G A-with combined-global structure invvpid invept invlpg violation-at accepts refuses starred further in-range place-in-range ept-in-range outside in-root in-guest current-vpid current-ept after-reset kind-of mapping-kind event-kind body-of length-of field mapping fields-in-range starts-record record-length covers joined cut records-within records whole only count canonical operands violation entry new-pcid event event-in-range valid-event current-ep4ta invvpid-scope invept-scope invlpg-scope guest-physical-violation-scope combined-violation-scope transition-scope scope entered next-context first kind-number good-eptp invvpid-supported bad-invvpid invept-supported bad-invept invalid-opcode exits general-protection invalid-operand ept-in-use out-of-place bad-entry entry-fails creatable creation-fails created no-room grounds answer new-table dropped-count stepped
+unfolding bytes same holds all without-21 program root root-of-width root-without-21 guest A G A-with combined-global structure invvpid invept invlpg violation-at accepts refuses starred further in-range after-reset kind-of mapping-kind event-kind body-of length-of field mapping fields-in-range starts-record record-length covers joined cut records-within records whole only count canonical operands violation entry new-pcid event event-in-range valid-event invvpid-scope invept-scope invlpg-scope guest-physical-violation-scope combined-violation-scope transition-scope scope entered next-context first good-eptp invvpid-supported bad-invvpid invept-supported bad-invept invalid-opcode exits general-protection invalid-operand out-of-place bad-entry entry-fails creatable creation-fails created no-room table-grounds event-grounds grounds answer new-table dropped-count stepped
 cards-hold = refl

@@ -17,12 +17,12 @@ abbrev pub cpl-in-range : ℕ → Bool
 cpl-in-range cpl = leb cpl 3
 
 -- an EPT state is off or "an EP4TA below 2^40"
-unfoldable pub ept-in-range : Ept → Bool
+abbrev pub ept-in-range : Ept → Bool
 ept-in-range Off = true
 ept-in-range (On ep4ta) = ltb ep4ta (2 ^ 40)
 
 -- "A guest place carries a VPID and an EPT state"; "VPID: 0 to 65,535"
-unfoldable pub place-in-range : Place → Bool
+abbrev pub place-in-range : Place → Bool
 place-in-range Outside = true
 place-in-range Root = true
 place-in-range (Guest guest) = leb (guest .vpid) 65535 && ept-in-range (guest .ept)
@@ -37,29 +37,29 @@ in-range c =
     && place-in-range (c .place)
 
 -- the three places, as tests
-unfoldable pub outside : Place → Bool
+abbrev pub outside : Place → Bool
 outside Outside = true
 outside Root = false
 outside (Guest guest) = false
 
-unfoldable pub in-root : Place → Bool
+abbrev pub in-root : Place → Bool
 in-root Outside = false
 in-root Root = true
 in-root (Guest guest) = false
 
-unfoldable pub in-guest : Place → Bool
+abbrev pub in-guest : Place → Bool
 in-guest Outside = false
 in-guest Root = false
 in-guest (Guest guest) = true
 
 -- "The current VPID is 0 outside and in root"; in a guest it is the guest's
-unfoldable pub current-vpid : Place → ℕ
+abbrev pub current-vpid : Place → ℕ
 current-vpid Outside = 0
 current-vpid Root = 0
 current-vpid (Guest guest) = guest .vpid
 
 -- EPT is in use only in a guest whose EPT state is not off
-unfoldable pub current-ept : Place → Ept
+abbrev pub current-ept : Place → Ept
 current-ept Outside = Off
 current-ept Root = Off
 current-ept (Guest guest) = guest .ept

@@ -1,5 +1,5 @@
--- Document 01, in its order. Definitions only: the laws about them stand in the crate `laws`, the
--- whole-run theorem in the crate `runs`.
+-- Document 01, in its order, up to the single step and lookup, and its bench cards. The whole runs
+-- stand in the crate `runs`. Definitions only: the laws about them are the crate `laws`.
 pub mod Bits
 pub mod Context
 pub mod Layouts
@@ -10,6 +10,4 @@ pub mod Scopes
 pub mod Answers
 pub mod Steps
 pub mod Lookups
-pub mod Book
-pub mod Runs
 pub mod Cards

@@ -1,8 +1,8 @@
 -- Document 01, "Looking up": the mappings that may be used for an address (000, 29.4.2).
 use Prim.Native.Nat.{ℕ, zero, suc, _+_}
-use mathlib.Core.Bool.{Bool, cond, not, _&&_}
+use mathlib.Core.Bool.{Bool, cond, _&&_}
 use mathlib.Core.List.{List, [], _∷_}
-use lib.Dec.{eqb, ltb}
+use lib.Dec.{eqb}
 use lib.ListN.{length, getD}
 use Rattle.model.specs.declared.Context.{Context}
 use Rattle.model.specs.declared.Ept.{Ept}
@@ -10,12 +10,12 @@ use Rattle.model.specs.declared.Ept.the-variants.{Off, On}
 use Rattle.model.specs.declared.Mapping.{Mapping}
 use Rattle.model.specs.declared.Address.{Address}
 use Rattle.model.specs.declared.Address.the-variants.{Linear, GuestPhysical}
-use Rattle.model.specs.Context.{in-range, current-vpid, current-ept}
+use Rattle.model.specs.Context.{current-vpid, current-ept}
 use Rattle.model.specs.Mappings.{mapping, linear, guest-physical, combined, covers}
-use Rattle.model.specs.Tables.{limit, whole, records, only}
+use Rattle.model.specs.Tables.{records, only}
 use Rattle.model.specs.Events.{canonical, page-of, guest-physical-in-range}
 use Rattle.model.specs.Scopes.{current-ep4ta, current-pcid-or-global}
-use Rattle.model.specs.Answers.{first}
+use Rattle.model.specs.Answers.{first, table-grounds}
 
 -- "kinds 1 and 4 with EPT not in use, kinds 3 and 6 of the current EP4TA with EPT in use"
 unfoldable pub translates-linear : Ept → Mapping → Bool
@@ -45,7 +45,7 @@ usable-records c a t = only (λ r. usable c a (mapping r)) (records t)
 
 -- "the answer number is asked separately": 1, 2 or 3, else 0
 unfoldable pub lookup-answer : Context → List ℕ → ℕ
-lookup-answer c t = first ((1, not (in-range c)) ∷ (2, ltb limit (length t)) ∷ (3, not (whole t)) ∷ [])
+lookup-answer c t = first (table-grounds c t)
 
 -- "The lookup hands back the k-th usable record, from 0": empty where there is none, or where the
 -- answer is not 0

@@ -28,7 +28,7 @@ abbrev pub ep4ta-of : ℕ → ℕ
 ep4ta-of eptp = bits 51 12 eptp
 
 -- the EP4TA is the current one; none is while EPT is off
-unfoldable pub current-ep4ta : Ept → ℕ → Bool
+abbrev pub current-ep4ta : Ept → ℕ → Bool
 current-ep4ta Off ep4ta = false
 current-ep4ta (On current) ep4ta = eqb ep4ta current
 

@@ -6,13 +6,13 @@ use mathlib.Core.List.{List, [], _∷_, map}
 use mathlib.Core.Path.{_≡_}
 use lib.Dec.{eqb}
 use lib.ListN.{length, take}
 use Rattle.model.specs.declared.Context.{Context}
 use Rattle.model.specs.declared.Address.{Address}
 use Rattle.model.specs.Context.{after-reset}
 use Rattle.model.specs.Tables.{limit, joined, records}
 use Rattle.model.specs.Steps.{stepped, written}
 use Rattle.model.specs.Lookups.{usable-records}
-use Rattle.model.specs.Book.{Report, opened, book-table, book-reports, book-of}
+use Rattle.runs.specs.Book.{Report, opened, book-table, book-reports, book-of}
 
 -- the context and table in force, the buffer that holds the table, and the other one
 pub record Run : Type 0 where

@@ -1,0 +1,132 @@
+-- Answers: what an accepted event's answer says, and on what the answer of an event depends.
+use Prim.Native.Nat.{ℕ, suc, min, _+_, _≤_, _<_}
+use mathlib.Core.Path.{_≡_, refl, sym, _∙_}
+use mathlib.Core.Bool.{Bool, true, false, cond, not, _&&_, and-eq-true-iff}
+use mathlib.Core.List.{List, [], _∷_, _++_}
+use native.Mathlib.Omega.{arith}
+use lib.Dec.{eqb, ltb}
+use lib.ListN.{length}
+use borrow.Author.Tests.{ltb-true, ltb-false, le-ltb, eqb-false, not-true, not-false}
+use Rattle.model.specs.declared.Context.{Context}
+use Rattle.model.specs.Context.{in-range}
+use Rattle.model.specs.Tables.{limit, whole}
+use Rattle.model.specs.Events.{event, valid-event}
+use Rattle.model.specs.Answers.{first, created, no-room, table-grounds, event-grounds, grounds, answer}
+use Rattle.laws.specs.Lists.{Every, none, more, every-head, every-tail, every-append-front, every-append-back}
+
+-- every ground has a number above 0, so that no answer 0 stands for one
+abbrev pub numbered : List (ℕ × Bool) → Bool
+numbered [] = true
+numbered (g ∷ gs) = ltb 0 (g .0) && numbered gs
+
+-- no ground applies where the answer is 0
+pub first-zero : (gs : List (ℕ × Bool)) → numbered gs ≡ true → first gs ≡ 0 → Every (λ g. g .1 ≡ false) gs
+unfolding first
+first-zero [] h e = none
+first-zero (g ∷ gs) h e =
+    let parts = and-eq-true-iff (ltb 0 (g .0)) (numbered gs) .0 h in
+    go (g .1) refl e (ltb-true 0 (g .0) (parts .0)) (λ r. first-zero gs (parts .1) r)
+  where
+    go : (b : Bool) → g .1 ≡ b → cond b (g .0) (first gs) ≡ 0 → 0 < g .0 → (first gs ≡ 0 → Every (λ g. g .1 ≡ false) gs)
+        → Every (λ g. g .1 ≡ false) (g ∷ gs)
+    go true q r p ih = absurd (omega arith)
+    go false q r p ih = more q (ih r)
+
+-- where the last ground does not give the answer, one that applies in fewer cases gives the same
+pub first-last : (gs : List (ℕ × Bool)) (n : ℕ) (b b′ : Bool) → (b ≡ false → b′ ≡ false) → (first (gs ++ ((n, b) ∷ [])) ≡ n → ⊥)
+    → first (gs ++ ((n, b′) ∷ [])) ≡ first (gs ++ ((n, b) ∷ []))
+unfolding first
+first-last [] n true b′ fewer h = absurd (h refl)
+first-last [] n false b′ fewer h = rw (fewer refl)
+first-last (g ∷ gs) n b b′ fewer h = go (g .1) h (λ k. first-last gs n b b′ fewer k)
+  where
+    go : (a : Bool) → (cond a (g .0) (first (gs ++ ((n, b) ∷ []))) ≡ n → ⊥)
+        → ((first (gs ++ ((n, b) ∷ [])) ≡ n → ⊥) → first (gs ++ ((n, b′) ∷ [])) ≡ first (gs ++ ((n, b) ∷ [])))
+        → cond a (g .0) (first (gs ++ ((n, b′) ∷ []))) ≡ cond a (g .0) (first (gs ++ ((n, b) ∷ [])))
+    go true k ih = refl
+    go false k ih = ih k
+
+-- the last ground applies where its number is given, and no other ground has that number
+abbrev pub lacks : ℕ → List (ℕ × Bool) → Bool
+lacks n [] = true
+lacks n (g ∷ gs) = not (eqb (g .0) n) && lacks n gs
+
+pub first-last-applies : (gs : List (ℕ × Bool)) (n : ℕ) (b : Bool) → lacks (suc n) gs ≡ true
+    → first (gs ++ ((suc n, b) ∷ [])) ≡ suc n
+    → b ≡ true
+unfolding first
+first-last-applies [] n true h e = refl
+first-last-applies [] n false h e = absurd (omega arith)
+first-last-applies (g ∷ gs) n b h e =
+    let parts = and-eq-true-iff (not (eqb (g .0) (suc n))) (lacks (suc n) gs) .0 h in
+    go (g .1) e (eqb-false (g .0) (suc n) (not-true (eqb (g .0) (suc n)) (parts .0))) (λ k. first-last-applies gs n b (parts .1) k)
+  where
+    go : (a : Bool) → cond a (g .0) (first (gs ++ ((suc n, b) ∷ []))) ≡ suc n → (g .0 ≡ suc n → ⊥)
+        → (first (gs ++ ((suc n, b) ∷ [])) ≡ suc n → b ≡ true)
+        → b ≡ true
+    go true k other ih = absurd (other k)
+    go false k other ih = ih k
+
+-- what it is that an event is accepted, as far as it concerns the table
+pub record Accepted (c : Context) (t e : List ℕ) (room : ℕ) : Type 0 where
+  pub context : in-range c ≡ true
+  pub whole : whole t ≡ true
+  pub valid : valid-event e ≡ true
+  pub fits : length t + length (created e) ≤ room
+  pub short : length t + length (created e) ≤ limit
+
+pub accepted-parts : (c : Context) (t e : List ℕ) (room : ℕ) → answer c t e room ≡ 0 → Accepted c t e room
+unfolding answer grounds table-grounds event-grounds no-room
+accepted-parts c t e room h =
+    let all = first-zero (grounds c t e room) refl h in
+    let early = table-grounds c t ++ ((4, not (valid-event e)) ∷ []) in
+    let before = every-append-front (early ++ event-grounds c (event e)) ((12, no-room room t e) ∷ []) all in
+    let last = every-append-back (early ++ event-grounds c (event e)) ((12, no-room room t e) ∷ []) all in
+    let both = every-append-front early (event-grounds c (event e)) before in
+    let of-table = every-append-front (table-grounds c t) ((4, not (valid-event e)) ∷ []) both in
+    let of-event = every-append-back (table-grounds c t) ((4, not (valid-event e)) ∷ []) both in
+    let enough = ltb-false (min room limit) (length t + length (created e)) (every-head last) in
+    record {
+      context = not-false (in-range c) (every-head of-table);
+      whole = not-false (whole t) (every-head (every-tail (every-tail of-table)));
+      valid = not-false (valid-event e) (every-head of-event);
+      fits = omega arith;
+      short = omega arith;
+    }
+
+-- the length of the new buffer does not matter where it is at least the limit
+pub answer-room : (c : Context) (t e : List ℕ) (room : ℕ) → limit ≤ room → answer c t e room ≡ answer c t e limit
+unfolding answer grounds no-room
+answer-room c t e room h = let same : min room limit ≡ limit = omega arith in rw same
+
+-- grounds 1 to 3 of a whole table that is short enough
+pub table-grounds-whole : (c : Context) (t : List ℕ) → whole t ≡ true → length t ≤ limit
+    → table-grounds c t ≡ (1, not (in-range c)) ∷ (2, false) ∷ (3, false) ∷ []
+unfolding table-grounds
+table-grounds-whole c t w short = rw (w, le-ltb limit (length t) short)
+
+-- a shorter table has no room in fewer cases
+pub no-room-shorter : (room : ℕ) (t t′ e : List ℕ) → length t′ ≤ length t → no-room room t e ≡ false → no-room room t′ e ≡ false
+unfolding no-room
+no-room-shorter room t t′ e less h =
+    le-ltb (min room limit) (length t′ + length (created e))
+    (omega (arith, ltb-false (min room limit) (length t + length (created e)) h))
+
+-- of two whole tables the shorter has the same answer, where room does not give it
+pub answer-shorter : (c : Context) (t t′ e : List ℕ) (room : ℕ) → whole t ≡ true → whole t′ ≡ true → length t ≤ limit
+    → length t′ ≤ length t
+    → (answer c t e room ≡ 12 → ⊥)
+    → answer c t′ e room ≡ answer c t e room
+unfolding answer grounds
+answer-shorter c t t′ e room w w′ short less h =
+    let same : table-grounds c t′ ≡ table-grounds c t =
+    table-grounds-whole c t′ w′ (omega arith) ∙ sym (table-grounds-whole c t w short) in
+    rw same
+    (first-last (table-grounds c t ++ ((4, not (valid-event e)) ∷ []) ++ event-grounds c (event e)) 12 (no-room room t e)
+    (no-room room t′ e) (no-room-shorter room t t′ e less) h)
+
+-- 12 is given only where there is no room
+pub answer-no-room : (c : Context) (t e : List ℕ) (room : ℕ) → answer c t e room ≡ 12 → no-room room t e ≡ true
+unfolding answer grounds table-grounds event-grounds
+answer-no-room c t e room h =
+    first-last-applies (table-grounds c t ++ ((4, not (valid-event e)) ∷ []) ++ event-grounds c (event e)) 11 (no-room room t e) refl h

@@ -1,0 +1,46 @@
+-- Lists in general: what holds of every element, and the front on which two byte lists agree.
+use Prim.Native.Nat.{ℕ, _≤_, _<_}
+use mathlib.Core.Path.{_≡_, refl}
+use mathlib.Core.Bool.{Bool, true, false, cond}
+use mathlib.Core.List.{List, [], _∷_, _++_}
+use native.Mathlib.Omega.{arith}
+use lib.ListN.{length, take, getD, List·getD-append}
+use lib.Seq.{getD-take}
+
+-- P holds of every element of a list
+pub data Every {A : Type 0} (P : A → Type 0) : List A → Type 0 where
+  none : Every P []
+  more : {x : A} {xs : List A} → P x → Every P xs → Every P (x ∷ xs)
+
+pub every-append : {A : Type 0} {P : A → Type 0} {xs ys : List A} → Every P xs → Every P ys → Every P (xs ++ ys)
+every-append none k = k
+every-append (more p h) k = more p (every-append h k)
+
+pub every-head : {A : Type 0} {P : A → Type 0} {x : A} {xs : List A} → Every P (x ∷ xs) → P x
+every-head (more p h) = p
+
+pub every-tail : {A : Type 0} {P : A → Type 0} {x : A} {xs : List A} → Every P (x ∷ xs) → Every P xs
+every-tail (more p h) = h
+
+pub every-append-front : {A : Type 0} {P : A → Type 0} (xs ys : List A) → Every P (xs ++ ys) → Every P xs
+every-append-front [] ys h = none
+every-append-front (x ∷ xs) ys (more p h) = more p (every-append-front xs ys h)
+
+pub every-append-back : {A : Type 0} {P : A → Type 0} (xs ys : List A) → Every P (xs ++ ys) → Every P ys
+every-append-back [] ys h = h
+every-append-back (x ∷ xs) ys (more p h) = every-append-back xs ys h
+
+-- an element that a test lets in stands before what is put behind
+pub cond-append : {A : Type 0} (b : Bool) (x : A) (xs ys : List A) → cond b (x ∷ (xs ++ ys)) (xs ++ ys) ≡ cond b (x ∷ xs) xs ++ ys
+cond-append true x xs ys = refl
+cond-append false x xs ys = refl
+
+-- the first n bytes of two lists are the same; bytes past an end count as 0
+abbrev pub Agree : ℕ → List ℕ → List ℕ → Type 0
+Agree n r t = (i : ℕ) → i < n → getD r i 0 ≡ getD t i 0
+
+pub agree-append : (n : ℕ) (r s : List ℕ) → n ≤ length r → Agree n (r ++ s) r
+agree-append n r s h i l = List·getD-append r s 0 i (omega arith)
+
+pub agree-take : (n m : ℕ) (t : List ℕ) → n ≤ m → Agree n (take m t) t
+agree-take n m t h i l = getD-take m t i 0 (omega arith)

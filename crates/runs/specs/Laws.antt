@@ -1,0 +1,8 @@
+-- Demand 3, proved: laws of the book, of a run's step, of in-order parts, of the first run and of the
+-- second.
+pub mod Book
+pub mod Steps
+pub mod Parts
+pub mod First
+pub mod Second
+pub mod Demand3
