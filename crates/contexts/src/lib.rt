@@ -5,7 +5,7 @@ use model::Place;
 ghost use mathlib.Core.Path.{_≡_};
 ghost use Rattle.model.specs.Context.{in-range, ept-in-range, place-in-range, outside, in-root, in-guest, current-vpid, current-ept};
 ghost use Rattle.model.specs.Answers.{ept-in-use};
-ghost use Rattle.model.specs.Scopes.{current-ep4ta};
+ghost use Rattle.model.specs.Scopes.{is-current-ep4ta};
 
 // The EPT state is off, or an EP4TA below 2^40.
 pub fn is_ept_in_range(ept: Ept) -> bool
@@ -106,7 +106,7 @@ pub fn is_ept_in_use(ept: Ept) -> bool
 
 // The EP4TA is the current one; none is while EPT is off.
 pub fn is_current_ep4ta(ept: Ept, ep4ta: u64) -> bool
-    ensures { λ r. ⌜ r ≡ current-ep4ta ept ep4ta ⌝ }
+    ensures { λ r. ⌜ r ≡ is-current-ep4ta ept ep4ta ⌝ }
 {
     match ept {
         Ept::Off => false,

@@ -2,7 +2,7 @@
 use Prim.Native.Nat.{ℕ, suc, min, _+_, _≤_, _<_}
 use mathlib.Core.Path.{_≡_, refl, sym, _∙_}
 use mathlib.Core.Bool.{Bool, true, false, cond, not, _&&_, and-eq-true-iff}
-use mathlib.Core.List.{List, [], _∷_, _++_}
+use mathlib.Core.List.{List, [], _∷_, _++_, append-assoc}
 use native.Mathlib.Omega.{arith}
 use lib.Dec.{eqb, ltb}
 use lib.ListN.{length}
@@ -11,7 +11,7 @@ use Rattle.model.specs.declared.Context.{Context}
 use Rattle.model.specs.Context.{in-range}
 use Rattle.model.specs.Tables.{limit, whole}
 use Rattle.model.specs.Events.{event, valid-event}
-use Rattle.model.specs.Answers.{first, created, no-room, table-grounds, event-grounds, grounds, answer}
+use Rattle.model.specs.Answers.{first, created, no-room, table-grounds, event-grounds, event-answer, grounds, answer}
 use Rattle.laws.specs.Lists.{Every, none, more, every-head, every-tail, every-append-front, every-append-back}
 
 -- every ground has a number above 0, so that no answer 0 stands for one
@@ -130,3 +130,57 @@ pub answer-no-room : (c : Context) (t e : List ℕ) (room : ℕ) → answer c t 
 unfolding answer grounds table-grounds event-grounds
 answer-no-room c t e room h =
     first-last-applies (table-grounds c t ++ ((4, not (valid-event e)) ∷ []) ++ event-grounds c (event e)) 11 (no-room room t e) refl h
+
+-- the answer of grounds end to end: that of the first part, or of the second where it gives none
+pub first-append-some : (gs hs : List (ℕ × Bool)) → (first gs ≡ 0 → ⊥) → first (gs ++ hs) ≡ first gs
+unfolding first
+first-append-some [] hs h = absurd (h refl)
+first-append-some (g ∷ gs) hs h = go (g .1) h (λ k. first-append-some gs hs k)
+  where
+    go : (b : Bool) → (cond b (g .0) (first gs) ≡ 0 → ⊥) → ((first gs ≡ 0 → ⊥) → first (gs ++ hs) ≡ first gs)
+        → cond b (g .0) (first (gs ++ hs)) ≡ cond b (g .0) (first gs)
+    go true k ih = refl
+    go false k ih = ih k
+
+pub first-append-none : (gs hs : List (ℕ × Bool)) → numbered gs ≡ true → first gs ≡ 0 → first (gs ++ hs) ≡ first hs
+unfolding first
+first-append-none [] hs h e = refl
+first-append-none (g ∷ gs) hs h e =
+    let parts = and-eq-true-iff (ltb 0 (g .0)) (numbered gs) .0 h in
+    go (g .1) e (ltb-true 0 (g .0) (parts .0)) (λ k. first-append-none gs hs (parts .1) k)
+  where
+    go : (b : Bool) → cond b (g .0) (first gs) ≡ 0 → 0 < g .0 → (first gs ≡ 0 → first (gs ++ hs) ≡ first hs)
+        → cond b (g .0) (first (gs ++ hs)) ≡ first hs
+    go true k p ih = absurd (omega arith)
+    go false k p ih = ih k
+
+-- the answer, stage by stage: the table's, 4, the event's, 12
+module _ (c : Context) (t e : List ℕ) (room : ℕ) where
+  pub answer-of-table : (first (table-grounds c t) ≡ 0 → ⊥) → answer c t e room ≡ first (table-grounds c t)
+  unfolding answer grounds
+  answer-of-table h =
+      simp append-assoc (first-append-some (table-grounds c t) (((4, not (valid-event e)) ∷ []) ++ (event-grounds c (event e) ++ ((12, no-room room t e) ∷ []))) h)
+
+  module _ (h : first (table-grounds c t) ≡ 0) where
+    past-table : answer c t e room ≡ first ((4, not (valid-event e)) ∷ (event-grounds c (event e) ++ ((12, no-room room t e) ∷ [])))
+    unfolding answer grounds table-grounds
+    past-table =
+        first-append-none (table-grounds c t) ((4, not (valid-event e)) ∷ (event-grounds c (event e) ++ ((12, no-room room t e) ∷ []))) refl h
+
+    pub answer-of-invalid : valid-event e ≡ false → answer c t e room ≡ 4
+    unfolding first
+    answer-of-invalid v = past-table ∙ rw v
+
+    module _ (v : valid-event e ≡ true) where
+      past-valid : answer c t e room ≡ first (event-grounds c (event e) ++ ((12, no-room room t e) ∷ []))
+      unfolding first
+      past-valid = past-table ∙ rw v
+
+      pub answer-of-event : (event-answer c (event e) ≡ 0 → ⊥) → answer c t e room ≡ event-answer c (event e)
+      unfolding event-answer
+      answer-of-event k = past-valid ∙ first-append-some (event-grounds c (event e)) ((12, no-room room t e) ∷ []) k
+
+      pub answer-of-room : event-answer c (event e) ≡ 0 → answer c t e room ≡ cond (no-room room t e) 12 0
+      unfolding event-answer first event-grounds
+      answer-of-room k =
+          past-valid ∙ first-append-none (event-grounds c (event e)) ((12, no-room room t e) ∷ []) refl k

@@ -7,7 +7,7 @@ use native.Mathlib.Omega.{arith}
 use lib.Dec.{eqb}
 use lib.ListN.{length, take}
 use Rattle.model.specs.Bits.{number}
-use Rattle.model.specs.Layouts.{Field, Body, place-of, bytes-of, offset-in, width-in, kind-of, body-of, length-of, field}
+use Rattle.model.specs.Layouts.{Field, Body, field-number, bytes-of, offset-in, width-in, kind-of, body-of, length-of, field}
 use Rattle.laws.specs.Lists.{Agree, agree-append, agree-take}
 
 -- a record or event has a kind byte
@@ -18,7 +18,7 @@ length-of-positive kind = omega arith
 -- a field of a body ends within it
 pub field-within : (b : Body) (f : Field) → offset-in b f + width-in b f ≤ bytes-of b
 field-within [] f = omega arith
-field-within (g ∷ gs) f = go (eqb (place-of f) (place-of (g .0))) (field-within gs f)
+field-within (g ∷ gs) f = go (eqb (field-number f) (field-number (g .0))) (field-within gs f)
   where
     go : (same : Bool) → offset-in gs f + width-in gs f ≤ bytes-of gs
         → cond same 0 (g .1 + offset-in gs f) + cond same (g .1) (width-in gs f) ≤ g .1 + bytes-of gs

@@ -18,7 +18,7 @@ use Rattle.model.specs.Layouts.{kind-of, mapping-kind}
 use Rattle.model.specs.Mappings.{linear, guest-physical, combined}
 use Rattle.model.specs.Tables.{limit, whole}
 use Rattle.model.specs.Events.{canonical, event, valid-event}
-use Rattle.model.specs.Scopes.{current-ep4ta, vpid-named}
+use Rattle.model.specs.Scopes.{is-current-ep4ta, vpid-named}
 
 -- the number of the first ground that applies, or 0
 unfoldable pub first : List (ℕ × Bool) → ℕ
@@ -31,7 +31,7 @@ among kind [] = false
 among kind (k ∷ []) = eqb kind k
 among kind (k ∷ l ∷ ks) = eqb kind k || among kind (l ∷ ks)
 
--- the kind of an event
+-- the kind of an event; a creation read from bytes has a mapping's kind
 abbrev pub kind-number : Event → ℕ
 kind-number (Creation m) = m .kind
 kind-number (Invvpid o) = 16
@@ -154,9 +154,9 @@ creatable c m =
     && not (ept-in-use (current-ept (c .place)))
     && eqb (m .vpid) (current-vpid (c .place))
     && eqb (m .pcid) (c .pcid))
-    || (guest-physical (m .kind) && current-ep4ta (current-ept (c .place)) (m .ep4ta))
+    || (guest-physical (m .kind) && is-current-ep4ta (current-ept (c .place)) (m .ep4ta))
     || (combined (m .kind)
-    && current-ep4ta (current-ept (c .place)) (m .ep4ta)
+    && is-current-ep4ta (current-ept (c .place)) (m .ep4ta)
     && eqb (m .vpid) (current-vpid (c .place))
     && eqb (m .pcid) (c .pcid))
 
@@ -203,8 +203,8 @@ event-grounds c e =
 unfoldable pub event-answer : Context → Event → ℕ
 event-answer c e = first (event-grounds c e)
 
--- the numbers in order, each with its ground: of a context, an old table, an event and the length of
--- the new buffer
+-- the numbers in ascending order, so that the first that applies is the lowest, each with its ground:
+-- of a context, an old table, an event and the length of the new buffer
 unfoldable pub grounds : Context → List ℕ → List ℕ → ℕ → List (ℕ × Bool)
 grounds c t e room =
     table-grounds c t

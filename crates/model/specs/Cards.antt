@@ -1,21 +1,28 @@
 -- Document 01, "Bench cards": the starred cards, and rows of our own for the mistakes that the
--- document lists, all as rows under a single statement about the definitions.
-use Prim.Native.Nat.{ℕ, zero, suc, _+_, _/_, _%_, _^_}
+-- document lists and for every answer, scope and change of context, all as rows under a single
+-- statement about the definitions.
+use Prim.Native.Nat.{ℕ, zero, suc, _+_, _-_, _/_, _%_, _^_}
 use mathlib.Core.Bool.{Bool, true, false, cond, _&&_}
-use mathlib.Core.List.{List, [], _∷_, _++_}
+use mathlib.Core.List.{List, [], _∷_, _++_, map}
 use mathlib.Core.Path.{_≡_, refl}
 use lib.Dec.{eqb}
+use lib.ListN.{length, drop, replicate}
 use Rattle.model.specs.declared.Context.{Context}
+use Rattle.model.specs.declared.Place.{Place}
 use Rattle.model.specs.declared.Place.the-variants.{Outside, Root, Guest}
+use Rattle.model.specs.declared.Address.{Address}
+use Rattle.model.specs.declared.Address.the-variants.{Linear, GuestPhysical}
+use Rattle.model.specs.declared.Ept.{Ept}
 use Rattle.model.specs.declared.Ept.the-variants.{Off, On}
 use Rattle.model.specs.Context.{in-range, after-reset}
 use Rattle.model.specs.Layouts.{kind-of, mapping-kind, event-kind, body-of, length-of, field}
 use Rattle.model.specs.Mappings.{mapping, fields-in-range, starts-record, record-length, covers}
-use Rattle.model.specs.Tables.{limit, joined, cut, records-within, records, whole, only, count}
+use Rattle.model.specs.Tables.{joined, cut, records-within, records, whole, only, count}
 use Rattle.model.specs.Events.{canonical, operands, violation, entry, new-pcid, event, event-in-range, valid-event}
 use Rattle.model.specs.Scopes.{invvpid-scope, invept-scope, invlpg-scope, guest-physical-violation-scope, combined-violation-scope, transition-scope, scope, entered, next-context}
 use Rattle.model.specs.Answers.{first, good-eptp, invvpid-supported, bad-invvpid, invept-supported, bad-invept, invalid-opcode, exits, general-protection, invalid-operand, out-of-place, bad-entry, entry-fails, creatable, creation-fails, created, no-room, table-grounds, event-grounds, grounds, answer}
-use Rattle.model.specs.Steps.{new-table, dropped-count, stepped}
+use Rattle.model.specs.Steps.{new-table, dropped-count, stepped, overwritten, written}
+use Rattle.model.specs.Lookups.{translates-linear, usable, usable-records, lookup-answer, lookup, start-of, lookup-start}
 
 -- n bytes of a number, little-endian
 bytes : ℕ → ℕ → List ℕ
@@ -28,25 +35,61 @@ same [] (y ∷ ys) = false
 same (x ∷ xs) [] = false
 same (x ∷ xs) (y ∷ ys) = eqb x y && same xs ys
 
--- a card: a step with a new buffer of 45,056 bytes, its answer and dropped count, and the table in
--- force after it
+-- contexts as numbers, to compare them
+ept-numbers : Ept → List ℕ
+ept-numbers Off = 0 ∷ []
+ept-numbers (On ep4ta) = 1 ∷ ep4ta ∷ []
+
+place-numbers : Place → List ℕ
+place-numbers Outside = 0 ∷ []
+place-numbers Root = 1 ∷ []
+place-numbers (Guest g) = 2 ∷ g .vpid ∷ ept-numbers (g .ept)
+
+numbers : Context → List ℕ
+numbers c = c .capability ∷ c .width ∷ c .pcid ∷ c .cpl ∷ place-numbers (c .place)
+
+-- a new buffer of 64 bytes, which no step may write past its new table
+buffer : List ℕ
+buffer = replicate 64 0xEE
+
+-- a card: a step, its answer and dropped count, the context after it, and the new table, which is
+-- empty where the step is refused
 record Card : Type 0 where
   context : Context
   table : List ℕ
   event : List ℕ
   answer : ℕ
   dropped : ℕ
-  after : List ℕ
+  after : Context
+  new : List ℕ
 
 holds : Card → Bool
 holds k =
-    eqb (stepped (k .context) (k .table) (k .event) limit .answer) (k .answer)
-    && eqb (stepped (k .context) (k .table) (k .event) limit .dropped) (k .dropped)
-    && same (cond (eqb (k .answer) 0) (new-table (k .context) (k .table) (k .event)) (k .table)) (k .after)
+    eqb (stepped (k .context) (k .table) (k .event) 64 .answer) (k .answer)
+    && eqb (stepped (k .context) (k .table) (k .event) 64 .dropped) (k .dropped)
+    && eqb (stepped (k .context) (k .table) (k .event) 64 .length) (length (k .new))
+    && same (numbers (stepped (k .context) (k .table) (k .event) 64 .context)) (numbers (k .after))
+    && same (written (k .context) (k .table) (k .event) buffer) (k .new ++ drop (length (k .new)) buffer)
 
-all : List Card → Bool
-all [] = true
-all (k ∷ ks) = holds k && all ks
+-- a lookup, its answer, and the record that it hands back with its start
+record Look : Type 0 where
+  context : Context
+  address : Address
+  table : List ℕ
+  nth : ℕ
+  answer : ℕ
+  start : ℕ
+  part : List ℕ
+
+shows : Look → Bool
+shows k =
+    eqb (lookup-answer (k .context) (k .table)) (k .answer)
+    && eqb (lookup-start (k .context) (k .address) (k .table) (k .nth)) (k .start)
+    && same (lookup (k .context) (k .address) (k .table) (k .nth)) (k .part)
+
+all : {A : Type 0} → (A → Bool) → List A → Bool
+all p [] = true
+all p (x ∷ xs) = p x && all p xs
 
 -- the program's capability: bits 6, 8, 14, 20, 21, 25, 26, 32, 40 to 43
 without-21 : ℕ
@@ -55,19 +98,23 @@ without-21 = 2 ^ 6 + 2 ^ 8 + 2 ^ 14 + 2 ^ 20 + 2 ^ 25 + 2 ^ 26 + 2 ^ 32 + 2 ^ 40
 program : ℕ
 program = without-21 + 2 ^ 21
 
--- "Root, CPL 0, program's capability"
+-- "Root, CPL 0, program's capability", PCID 0 and N = 52 unless said
+at : ℕ → ℕ → ℕ → ℕ → Place → Context
+at capability width pcid cpl place =
+    record { capability = capability; width = width; pcid = pcid; cpl = cpl; place = place }
+
 root : Context
-root = record { capability = program; width = 52; pcid = 0; cpl = 0; place = Root }
+root = at program 52 0 0 Root
 
-root-of-width : ℕ → Context
-root-of-width n = record { capability = program; width = n; pcid = 0; cpl = 0; place = Root }
+outside : Context
+outside = at program 52 0 0 Outside
 
-root-without-21 : Context
-root-without-21 = record { capability = without-21; width = 52; pcid = 0; cpl = 0; place = Root }
+-- a guest with PCID 1, without EPT and with EP4TA 1234567h
+guest : ℕ → Context
+guest vpid = at program 52 1 0 (Guest (record { vpid = vpid; ept = Off }))
 
--- a guest with VPID 5, PCID 1 and EP4TA 1234567h
-guest : Context
-guest = record { capability = program; width = 52; pcid = 1; cpl = 0; place = Guest (record { vpid = 5; ept = On 0x1234567 }) }
+ept-guest : ℕ → Context
+ept-guest vpid = at program 52 1 0 (Guest (record { vpid = vpid; ept = On 0x1234567 }))
 
 A : List ℕ
 A = 0x01 ∷ 0x05 ∷ 0x00 ∷ 0x01 ∷ 0x00 ∷ 0x00 ∷ 0x00 ∷ 0x45 ∷ 0x23 ∷ 0x01 ∷ 0x00 ∷ 0x00 ∷ 0xDE ∷ 0xBC ∷ 0x0A ∷ 0x00 ∷ 0x00 ∷ []
@@ -75,19 +122,29 @@ A = 0x01 ∷ 0x05 ∷ 0x00 ∷ 0x01 ∷ 0x00 ∷ 0x00 ∷ 0x00 ∷ 0x45 ∷ 0x23
 G : List ℕ
 G = 0x02 ∷ 0x67 ∷ 0x45 ∷ 0x23 ∷ 0x01 ∷ 0x00 ∷ 0x00 ∷ 0x10 ∷ 0x00 ∷ 0x00 ∷ 0x00 ∷ 0x00 ∷ 0x20 ∷ 0x00 ∷ 0x00 ∷ 0x00 ∷ 0x00 ∷ []
 
--- A with another global, span and page
-A-with : ℕ → ℕ → ℕ → List ℕ
-A-with global span page = 1 ∷ bytes 2 5 ++ bytes 2 1 ++ (global ∷ span ∷ []) ++ bytes 5 page ++ bytes 5 0xABCDE
+-- records of each kind, of EP4TA 1234567h where they have one: VPID, PCID, global, span, page
+linear : ℕ → ℕ → ℕ → ℕ → ℕ → List ℕ
+linear vpid pcid global span page =
+    1 ∷ bytes 2 vpid ++ bytes 2 pcid ++ (global ∷ span ∷ []) ++ bytes 5 page ++ bytes 5 0xABCDE
 
--- a combined translation of VPID 5 and a PCID, global, of EP4TA 1234567h; and a linear structure cache
--- of VPID 5
-combined-global : ℕ → List ℕ
-combined-global pcid = 3 ∷ bytes 2 5 ++ bytes 2 pcid ++ (1 ∷ 0 ∷ []) ++ bytes 5 0x12345 ++ bytes 5 7 ++ bytes 5 0x1234567
+guest-physical : ℕ → ℕ → List ℕ
+guest-physical span page = 2 ∷ bytes 5 0x1234567 ++ (span ∷ []) ++ bytes 5 page ++ bytes 5 7
 
-structure : List ℕ
-structure = 4 ∷ bytes 2 5 ++ bytes 2 1 ++ (1 ∷ []) ++ bytes 5 0x12200 ++ bytes 5 9
+combined : ℕ → ℕ → ℕ → ℕ → ℕ → List ℕ
+combined vpid pcid global span page =
+    3 ∷ bytes 2 vpid ++ bytes 2 pcid ++ (global ∷ span ∷ []) ++ bytes 5 page ++ bytes 5 7 ++ bytes 5 0x1234567
 
--- the INVVPID and INVEPT of a type with the descriptor's two quadwords
+linear-structure : ℕ → ℕ → ℕ → ℕ → List ℕ
+linear-structure vpid pcid span page = 4 ∷ bytes 2 vpid ++ bytes 2 pcid ++ (span ∷ []) ++ bytes 5 page ++ bytes 5 9
+
+guest-physical-structure : ℕ → ℕ → List ℕ
+guest-physical-structure span page = 5 ∷ bytes 5 0x1234567 ++ (span ∷ []) ++ bytes 5 page ++ bytes 5 9
+
+combined-structure : ℕ → ℕ → ℕ → ℕ → List ℕ
+combined-structure vpid pcid span page =
+    6 ∷ bytes 2 vpid ++ bytes 2 pcid ++ (span ∷ []) ++ bytes 5 page ++ bytes 5 9 ++ bytes 5 0x1234567
+
+-- the other events
 invvpid : ℕ → ℕ → ℕ → List ℕ
 invvpid type low high = 16 ∷ bytes 8 type ++ bytes 8 low ++ bytes 8 high
 
@@ -97,15 +154,34 @@ invept type low high = 17 ∷ bytes 8 type ++ bytes 8 low ++ bytes 8 high
 invlpg : ℕ → List ℕ
 invlpg address = 18 ∷ bytes 8 address
 
-violation-at : ℕ → ℕ → List ℕ
-violation-at physical linear = 19 ∷ bytes 8 physical ++ (1 ∷ []) ++ bytes 8 linear
+ept-violation : ℕ → ℕ → ℕ → List ℕ
+ept-violation physical flag linear-address = 19 ∷ bytes 8 physical ++ (flag ∷ []) ++ bytes 8 linear-address
 
--- a card that is accepted, and one that is refused
+vm-entry : ℕ → ℕ → ℕ → ℕ → ℕ → ℕ → List ℕ
+vm-entry vpids vpid ept eptp pcid cpl =
+    20 ∷ (vpids ∷ []) ++ bytes 2 vpid ++ (ept ∷ []) ++ bytes 8 eptp ++ bytes 2 pcid ++ (cpl ∷ [])
+
+vm-exit : ℕ → List ℕ
+vm-exit pcid = 21 ∷ bytes 2 pcid
+
+new-pcid-cpl : ℕ → ℕ → List ℕ
+new-pcid-cpl pcid cpl = 24 ∷ bytes 2 pcid ++ (cpl ∷ [])
+
+-- a step that is accepted and leaves the context, one that changes it, and one that is refused
 accepts : Context → List ℕ → List ℕ → ℕ → List ℕ → Card
-accepts c t e n after = record { context = c; table = t; event = e; answer = 0; dropped = n; after = after }
+accepts c t e n new = record { context = c; table = t; event = e; answer = 0; dropped = n; after = c; new = new }
+
+moves : Context → List ℕ → List ℕ → ℕ → List ℕ → Context → Card
+moves c t e n new after = record { context = c; table = t; event = e; answer = 0; dropped = n; after = after; new = new }
 
 refuses : Context → List ℕ → List ℕ → ℕ → Card
-refuses c t e n = record { context = c; table = t; event = e; answer = n; dropped = 0; after = t }
+refuses c t e n = record { context = c; table = t; event = e; answer = n; dropped = 0; after = c; new = [] }
+
+finds : Context → Address → List ℕ → ℕ → ℕ → List ℕ → Look
+finds c a t k start part = record { context = c; address = a; table = t; nth = k; answer = 0; start = start; part = part }
+
+misses : Context → Address → List ℕ → ℕ → ℕ → Look
+misses c a t k answer = record { context = c; address = a; table = t; nth = k; answer = answer; start = 0; part = [] }
 
 -- the starred cards, in the document's order
 starred : List Card
@@ -125,37 +201,227 @@ starred =
     ∷ accepts root A (invvpid 2 0 0) 1 []
     ∷ refuses root A (invvpid 2 (5 + 2 ^ 16) 0) 8
     -- A with span 1 and page 12200h covers page 12345h; page 12201h with span 1
-    ∷ accepts root (A-with 0 1 0x12200) (invvpid 0 5 0x12345000) 1 []
-    ∷ refuses root (A-with 0 1 0x12201) (invvpid 0 5 0x12345000) 3
+    ∷ accepts root (linear 5 1 0 1 0x12200) (invvpid 0 5 0x12345000) 1 []
+    ∷ refuses root (linear 5 1 0 1 0x12201) (invvpid 0 5 0x12345000) 3
     -- A with global 1 stays under type 3
-    ∷ accepts root (A-with 1 0 0x12345) (invvpid 3 5 0) 0 (A-with 1 0 0x12345)
+    ∷ accepts root (linear 5 1 1 0 0x12345) (invvpid 3 5 0) 0 (linear 5 1 1 0 0x12345)
     -- G; INVEPT 1, EPTP 123456701Eh with N = 37 and N = 36; 123456705Eh, and capability bit 21
-    ∷ accepts (root-of-width 37) G (invept 1 0x123456701E 0) 1 []
-    ∷ refuses (root-of-width 36) G (invept 1 0x123456701E 0) 8
+    ∷ accepts (at program 37 0 0 Root) G (invept 1 0x123456701E 0) 1 []
+    ∷ refuses (at program 36 0 0 Root) G (invept 1 0x123456701E 0) 8
     ∷ accepts root G (invept 1 0x123456705E 0) 1 []
-    ∷ refuses root-without-21 G (invept 1 0x123456705E 0) 8
+    ∷ refuses (at without-21 52 0 0 Root) G (invept 1 0x123456705E 0) 8
     ∷ []
 
--- rows for the neighbours of these cards and for "Mistakes we have met"
-further : List Card
-further =
-    -- type 4; a page one span away is not covered
-    refuses root A (invvpid 4 5 0) 8
-    ∷ accepts root (A-with 0 1 0x12200) (invvpid 0 5 0x12400000) 0 (A-with 0 1 0x12200)
-    -- mistake 2: INVVPID leaves kind 2, INVEPT leaves kind 1
-    ∷ accepts root G (invvpid 2 0 0) 0 G
-    ∷ accepts root A (invept 2 0 0) 0 A
-    -- mistake 3: an EPT violation takes a combined global record of the current PCID alone
-    ∷ accepts guest (combined-global 2) (violation-at 0x10000 0x12345000) 0 (combined-global 2)
-    ∷ accepts guest (combined-global 1) (violation-at 0x10000 0x12345000) 1 []
-    -- mistake 4: type 3 takes structure caches, INVLPG global records of another PCID
-    ∷ accepts root structure (invvpid 3 5 0) 1 []
-    ∷ accepts guest (combined-global 2) (invlpg 0x12345000) 1 []
-    -- an empty table, reset
-    ∷ accepts root [] (25 ∷ []) 0 []
+-- the answers, each by its grounds
+answered : List Card
+answered =
+    -- 1: N, PCID, CPL, VPID and EP4TA past their bounds, before anything else is looked at
+    refuses (at program 53 0 0 Root) (0 ∷ []) [] 1
+    ∷ refuses (at program 35 0 0 Root) [] [] 1
+    ∷ refuses (at program 52 4096 0 Root) [] [] 1
+    ∷ refuses (at program 52 0 4 Root) [] [] 1
+    ∷ refuses (guest 65536) [] [] 1
+    ∷ refuses (at program 52 0 0 (Guest (record { vpid = 0; ept = On (2 ^ 40) }))) [] [] 1
+    -- 3: an unknown kind, a cut record, and each field past its bound; the bound itself is valid
+    ∷ refuses root (7 ∷ []) (25 ∷ []) 3
+    ∷ refuses root (A ++ (1 ∷ [])) (25 ∷ []) 3
+    ∷ refuses root (linear 5 4096 0 0 0) (25 ∷ []) 3
+    ∷ accepts root (linear 5 4095 0 0 0) (invvpid 1 5 0) 1 []
+    ∷ refuses root (linear 5 1 2 0 0) (25 ∷ []) 3
+    ∷ refuses root (linear 5 1 0 3 0) (25 ∷ []) 3
+    ∷ accepts root (linear 5 1 0 2 0) (invvpid 1 5 0) 1 []
+    ∷ refuses root (linear-structure 5 1 0 0) (25 ∷ []) 3
+    ∷ refuses root (combined-structure 5 1 4 0) (25 ∷ []) 3
+    ∷ accepts root (combined-structure 5 1 3 0) (invvpid 1 5 0) 1 []
+    ∷ refuses root (guest-physical 3 0) (25 ∷ []) 3
+    ∷ refuses root (guest-physical-structure 0 0) (25 ∷ []) 3
+    ∷ refuses root (linear 5 1 0 0 (2 ^ 36)) (25 ∷ []) 3
+    ∷ accepts root (linear 5 1 0 0 (2 ^ 36 - 1)) (invvpid 1 5 0) 1 []
+    -- 4: no byte, an unknown kind, a byte too few or too many, two events, each field past its bound
+    ∷ refuses root A [] 4
+    ∷ refuses root A (26 ∷ []) 4
+    ∷ refuses root A (22 ∷ 22 ∷ []) 4
+    ∷ refuses root A (16 ∷ bytes 23 0) 4
+    ∷ refuses (guest 5) A (vm-exit 4096) 4
+    ∷ refuses root A (new-pcid-cpl 0 4) 4
+    ∷ refuses root A (new-pcid-cpl 4096 0) 4
+    ∷ refuses root A (vm-entry 2 5 0 0 1 0) 4
+    ∷ refuses root A (vm-entry 0 0 2 0 1 0) 4
+    ∷ refuses outside A (ept-violation (2 ^ 48) 0 0) 4
+    ∷ refuses outside A (ept-violation 0 2 0) 4
+    ∷ refuses outside A (ept-violation 0 1 (2 ^ 47)) 4
+    ∷ refuses outside A (ept-violation 0 0 (2 ^ 47)) 9
+    -- 5, 6 and 7: the number decides, not the kind
+    ∷ refuses outside A (invvpid 1 5 0) 5
+    ∷ refuses outside A (invept 2 0 0) 5
+    ∷ refuses outside A (vm-entry 1 5 0 0 1 0) 5
+    ∷ refuses (at program 52 0 3 Outside) A (23 ∷ []) 5
+    ∷ refuses (at program 52 0 3 Outside) A (22 ∷ []) 7
+    ∷ refuses (at (2 ^ 20) 52 0 3 (Guest (record { vpid = 5; ept = Off }))) A (invvpid 1 5 0) 5
+    ∷ refuses (at (2 ^ 32) 52 0 3 (Guest (record { vpid = 5; ept = Off }))) A (invept 1 5 0) 5
+    ∷ refuses (at program 52 0 3 (Guest (record { vpid = 5; ept = Off }))) A (invvpid 9 5 0) 6
+    ∷ refuses (guest 5) A (invept 9 0 0) 6
+    ∷ refuses (guest 5) A (vm-entry 1 5 0 0 1 0) 6
+    ∷ refuses (guest 5) A (22 ∷ []) 6
+    ∷ refuses (guest 5) A (23 ∷ []) 6
+    ∷ refuses (at program 52 0 1 Root) A (invvpid 9 5 0) 7
+    ∷ refuses (at program 52 0 1 Root) A (invept 9 0 0) 7
+    ∷ refuses (at program 52 0 1 Root) A (vm-entry 1 0 0 0 1 0) 7
+    ∷ refuses (at program 52 0 1 Root) A (22 ∷ []) 7
+    ∷ refuses (at program 52 0 1 Root) A (23 ∷ []) 7
+    ∷ refuses (at program 52 0 1 Outside) A (invlpg 0) 7
+    -- 8: types, their capability bits, reserved bits, VPID 0, addresses and EPTPs
+    ∷ refuses root A (invvpid 4 5 0) 8
+    ∷ refuses root A (invvpid (2 ^ 32 + 1) 5 0) 8
+    ∷ refuses root A (invvpid 1 (5 + 2 ^ 63) 0) 8
+    ∷ refuses root A (invvpid 1 0 0) 8
+    ∷ refuses root A (invvpid 3 0 0) 8
+    ∷ refuses (at (program - 2 ^ 40) 52 0 0 Root) A (invvpid 0 5 0) 8
+    ∷ refuses (at (program - 2 ^ 41) 52 0 0 Root) A (invvpid 1 5 0) 8
+    ∷ refuses (at (program - 2 ^ 42) 52 0 0 Root) A (invvpid 2 5 0) 8
+    ∷ refuses (at (program - 2 ^ 43) 52 0 0 Root) A (invvpid 3 5 0) 8
+    ∷ refuses root A (invept 0 0x123456701E 0) 8
+    ∷ refuses root A (invept 3 0x123456701E 0) 8
+    ∷ refuses (at (program - 2 ^ 25) 52 0 0 Root) A (invept 1 0x123456701E 0) 8
+    ∷ refuses (at (program - 2 ^ 26) 52 0 0 Root) A (invept 2 0 0) 8
+    ∷ refuses root A (invept 2 0 1) 8
+    ∷ refuses root A (invept 1 0x123456701E (2 ^ 63)) 8
+    ∷ accepts root G (invept 1 0x1234567018 0) 1 []
+    ∷ refuses (at (program - 2 ^ 8) 52 0 0 Root) G (invept 1 0x1234567018 0) 8
+    ∷ refuses (at (program - 2 ^ 14) 52 0 0 Root) G (invept 1 0x123456701E 0) 8
+    ∷ refuses (at (program - 2 ^ 6) 52 0 0 Root) G (invept 1 0x123456701E 0) 8
+    ∷ refuses root G (invept 1 0x1234567019 0) 8
+    ∷ refuses root G (invept 1 0x1234567016 0) 8
+    ∷ refuses root G (invept 1 (0x123456701E + 2 ^ 7) 0) 8
+    ∷ refuses root G (invept 1 (0x123456701E + 2 ^ 11) 0) 8
+    ∷ refuses root G (invept 1 (0x123456701E + 2 ^ 52) 0) 8
+    ∷ accepts root G (invept 1 (0x123456701E + 2 ^ 51) 0) 0 G
+    -- 9, 10 and 11
+    ∷ refuses root A (22 ∷ []) 9
+    ∷ refuses root A (vm-exit 0) 9
+    ∷ refuses outside A (vm-exit 0) 9
+    ∷ refuses (guest 5) A (ept-violation 0 0 0) 9
+    ∷ refuses root A (ept-violation 0 0 0) 9
+    ∷ refuses root A (vm-entry 1 0 0 0 1 0) 10
+    ∷ refuses root A (vm-entry 0 0 1 0x123456709E 1 0) 10
+    ∷ refuses root [] A 11
+    ∷ refuses (guest 5) [] (linear 5 2 1 0 0) 11
+    ∷ refuses (ept-guest 5) [] A 11
+    ∷ refuses root [] G 11
+    ∷ refuses (guest 5) [] (combined 5 1 0 0 0) 11
+    ∷ refuses (ept-guest 5) [] (combined 5 2 0 0 0) 11
+    ∷ refuses (ept-guest 6) [] (combined 5 1 0 0 0) 11
+    ∷ refuses (at program 52 1 0 (Guest (record { vpid = 5; ept = On 7 }))) [] (combined 5 1 0 0 0) 11
+    ∷ refuses (at program 52 1 0 (Guest (record { vpid = 5; ept = On 7 }))) [] G 11
+    ∷ accepts (guest 5) [] A 0 A
+    ∷ accepts (guest 5) A (linear-structure 5 1 1 0) 0 (A ++ linear-structure 5 1 1 0)
+    ∷ accepts (ept-guest 9) [] (guest-physical-structure 3 0) 0 (guest-physical-structure 3 0)
+    ∷ accepts (ept-guest 5) [] (combined-structure 5 1 1 0) 0 (combined-structure 5 1 1 0)
+    -- 12: the old table does not fit the buffer of 64 bytes, though all of it would go; nor does a
+    -- creation; 11 goes first
+    ∷ refuses root (A ++ A ++ A ++ A) (25 ∷ []) 12
+    ∷ refuses (guest 5) (A ++ A ++ A) A 12
+    ∷ accepts (guest 5) (linear-structure 5 1 1 0 ++ linear-structure 5 1 1 0 ++ linear-structure 5 1 1 0) (linear-structure 5 1 1 0) 0
+    (linear-structure 5 1 1 0 ++ linear-structure 5 1 1 0 ++ linear-structure 5 1 1 0 ++ linear-structure 5 1 1 0)
+    ∷ refuses root (A ++ A ++ A) A 11
+    ∷ []
+
+-- the scopes, and the mistakes that the document lists
+scoped : List Card
+scoped =
+    -- INVVPID: global or not, all PCIDs; mistake 2: kinds 2 and 5 stay; VPID 0 stays under type 2
+    accepts root (linear 5 9 1 0 0x12345) (invvpid 0 5 0x12345000) 1 []
+    ∷ accepts root (linear 6 1 0 0 0x12345) (invvpid 0 5 0x12345000) 0 (linear 6 1 0 0 0x12345)
+    ∷ accepts root (combined 5 9 1 0 0x12345) (invvpid 1 5 0) 1 []
+    ∷ accepts root (G ++ guest-physical-structure 1 0) (invvpid 2 0 0) 0 (G ++ guest-physical-structure 1 0)
+    ∷ accepts root (linear 0 1 0 0 0) (invvpid 2 0 0) 0 (linear 0 1 0 0 0)
+    -- a page one span away is not covered
+    ∷ accepts root (linear 5 1 0 1 0x12200) (invvpid 0 5 0x12400000) 0 (linear 5 1 0 1 0x12200)
+    ∷ accepts root (linear-structure 5 1 2 0x40000) (invvpid 0 5 0x7FFFF000) 1 []
+    ∷ accepts root (linear-structure 5 1 3 0) (invvpid 0 5 0x7FFFFFF000) 1 []
+    -- mistake 4: type 3 takes structure caches
+    ∷ accepts root (linear-structure 5 1 1 0x12200 ++ combined-structure 5 1 1 0) (invvpid 3 5 0) 2 []
+    ∷ accepts root (combined 5 1 1 0 0) (invvpid 3 5 0) 0 (combined 5 1 1 0 0)
+    -- INVEPT: kinds 1 and 4 stay, VPID 0 too goes; another EP4TA stays
+    ∷ accepts root (A ++ linear-structure 5 1 1 0) (invept 2 0 0) 0 (A ++ linear-structure 5 1 1 0)
+    ∷ accepts root (guest-physical-structure 1 0 ++ combined-structure 0 1 1 0) (invept 1 0x123456701E 0) 2 []
+    ∷ accepts root (combined 5 1 0 0 0) (invept 1 0x123456801E 0) 0 (combined 5 1 0 0 0)
+    -- INVLPG: the current VPID and page; the current PCID or, mistake 4, global; structure caches of
+    -- the current PCID; any EP4TA, EPT on or off; kinds 2 and 5 stay; no ground in the address
+    ∷ accepts (ept-guest 5) (combined 5 2 1 0 0x12345) (invlpg 0x12345000) 1 []
+    ∷ accepts (ept-guest 5) (combined 5 2 0 0 0x12345) (invlpg 0x12345000) 0 (combined 5 2 0 0 0x12345)
+    ∷ accepts (ept-guest 5) A (invlpg 0x12345000) 1 []
+    ∷ accepts (guest 5) (combined-structure 5 1 1 0x12200) (invlpg 0x12345000) 1 []
+    ∷ accepts (guest 5) (linear-structure 5 2 1 0x12200) (invlpg 0x12345000) 0 (linear-structure 5 2 1 0x12200)
+    ∷ accepts (guest 5) (linear-structure 5 1 1 0x12400) (invlpg 0x12345000) 0 (linear-structure 5 1 1 0x12400)
+    ∷ accepts (guest 6) A (invlpg 0x12345000) 0 A
+    ∷ accepts (guest 5) A (invlpg 0x12346000) 0 A
+    ∷ accepts root (guest-physical 0 0x12345) (invlpg 0x12345000) 0 (guest-physical 0 0x12345)
+    ∷ accepts (guest 5) (linear 5 1 0 0 0) (invlpg (2 ^ 48)) 0 (linear 5 1 0 0 0)
+    ∷ accepts (guest 5) (linear 5 1 0 0 0xFFFFFFFFF) (invlpg 0xFFFFFFFFFFFFF000) 1 []
+    -- EPT violation: kinds 2 and 5 by the guest-physical page; kinds 3 and 6 by the linear page with
+    -- flag 1; mistake 3: a global record of another PCID stays; kinds 1 and 4 stay
+    ∷ accepts (ept-guest 5) (guest-physical 0 0x10 ++ guest-physical-structure 1 0) (ept-violation 0x10000 0 0) 2 []
+    ∷ accepts (ept-guest 5) (guest-physical 0 0x11) (ept-violation 0x10000 1 0x11000) 0 (guest-physical 0 0x11)
+    ∷ accepts (ept-guest 5) (combined 5 1 0 0 0x10) (ept-violation 0x10000 0 0x10000) 0 (combined 5 1 0 0 0x10)
+    ∷ accepts (ept-guest 5) (combined 5 1 1 0 0x12345 ++ combined-structure 5 1 1 0x12200) (ept-violation 0 1 0x12345000) 2 []
+    ∷ accepts (ept-guest 5) (combined 5 2 1 0 0x12345) (ept-violation 0 1 0x12345000) 0 (combined 5 2 1 0 0x12345)
+    ∷ accepts (ept-guest 6) (combined 5 1 0 0 0x12345) (ept-violation 0 1 0x12345000) 0 (combined 5 1 0 0 0x12345)
+    ∷ accepts (ept-guest 5) A (ept-violation 0x12345000 1 0x12345000) 0 A
+    ∷ accepts (at program 52 1 0 (Guest (record { vpid = 5; ept = On 7 }))) (G ++ combined 5 1 0 0 0x10) (ept-violation 0x10000 1 0x10000) 0
+    (G ++ combined 5 1 0 0 0x10)
+    -- entry asks the event's flag: VPID 0 goes without VPIDs; kinds 2 and 5 and other VPIDs stay
+    ∷ moves root (linear 0 9 1 0 0 ++ combined 0 1 0 0 0) (vm-entry 0 9 0 0 1 3) 2 [] (at program 52 1 3 (Guest (record { vpid = 0; ept = Off })))
+    ∷ moves root (A ++ G) (vm-entry 0 0 0 0 1 0) 0 (A ++ G) (at program 52 1 0 (Guest (record { vpid = 0; ept = Off })))
+    ∷ moves root (linear 0 9 1 0 0) (vm-entry 1 5 0 7 1 0) 0 (linear 0 9 1 0 0) (guest 5)
+    ∷ moves root (linear-structure 0 1 1 0) (vm-entry 1 5 1 0x123456705E 1 0) 0 (linear-structure 0 1 1 0) (ept-guest 5)
+    -- exit asks the context's VPID
+    ∷ moves (ept-guest 0) (linear 0 9 1 0 0 ++ combined-structure 0 1 1 0) (vm-exit 7) 2 [] (at program 52 7 0 Root)
+    ∷ moves (ept-guest 0) (A ++ G) (vm-exit 7) 0 (A ++ G) (at program 52 7 0 Root)
+    ∷ moves (guest 5) (linear 0 1 0 0 0) (vm-exit 7) 0 (linear 0 1 0 0 0) (at program 52 7 0 Root)
+    -- VMXON, VMXOFF, a new PCID and CPL, and reset
+    ∷ moves (at program 52 3 0 Outside) (linear 0 1 0 0 0) (22 ∷ []) 0 (linear 0 1 0 0 0) (at program 52 3 0 Root)
+    ∷ moves (at program 52 3 0 Root) (linear 0 1 0 0 0) (23 ∷ []) 0 (linear 0 1 0 0 0) (at program 52 3 0 Outside)
+    ∷ moves (at program 52 3 3 Root) A (new-pcid-cpl 9 2) 0 A (at program 52 9 2 Root)
+    ∷ moves (at program 40 3 3 (Guest (record { vpid = 5; ept = Off }))) (A ++ G) (25 ∷ []) 2 [] (at program 40 0 0 Outside)
+    ∷ moves root [] (25 ∷ []) 0 [] outside
+    -- equal records may stand twice, and both go
+    ∷ accepts root (A ++ A) (invvpid 1 5 0) 2 []
+    ∷ []
+
+-- the lengths of the kinds, with the kind byte
+lengths : Bool
+lengths =
+    same (map length-of (1 ∷ 2 ∷ 3 ∷ 4 ∷ 5 ∷ 6 ∷ 16 ∷ 17 ∷ 18 ∷ 19 ∷ 20 ∷ 21 ∷ 22 ∷ 23 ∷ 24 ∷ 25 ∷ []))
+    (17 ∷ 17 ∷ 22 ∷ 16 ∷ 17 ∷ 21 ∷ 25 ∷ 25 ∷ 9 ∷ 18 ∷ 16 ∷ 3 ∷ 1 ∷ 1 ∷ 4 ∷ 1 ∷ [])
+
+-- lookups: both kinds of record count, in the table's order
+looks : List Look
+looks =
+    finds (guest 5) (Linear 0x12345678) (A ++ linear-structure 5 1 1 0x12200) 0 0 A
+    ∷ finds (guest 5) (Linear 0x12345678) (A ++ linear-structure 5 1 1 0x12200) 1 17 (linear-structure 5 1 1 0x12200)
+    ∷ misses (guest 5) (Linear 0x12345678) (A ++ linear-structure 5 1 1 0x12200) 2 0
+    -- another VPID, PCID or page; global serves every PCID; EPT in use wants its EP4TA
+    ∷ misses (guest 6) (Linear 0x12345678) A 0 0
+    ∷ misses (guest 5) (Linear 0x12345678) (linear 5 2 0 0 0x12345) 0 0
+    ∷ finds (guest 5) (Linear 0x12345678) (G ++ linear 5 2 1 0 0x12345) 0 17 (linear 5 2 1 0 0x12345)
+    ∷ misses (guest 5) (Linear 0x12346000) A 0 0
+    ∷ misses (ept-guest 5) (Linear 0x12345678) A 0 0
+    ∷ finds (ept-guest 5) (Linear 0x12345678) (combined 5 1 0 0 0x12345) 0 0 (combined 5 1 0 0 0x12345)
+    ∷ misses (at program 52 1 0 (Guest (record { vpid = 5; ept = On 7 }))) (Linear 0x12345678) (combined 5 1 1 0 0x12345) 0 0
+    ∷ misses (guest 5) (Linear 0x12345678) (combined 5 1 0 0 0x12345) 0 0
+    -- guest-physical: the EP4TA alone, below 2^48, with EPT in use
+    ∷ finds (ept-guest 9) (GuestPhysical 0x10FFF) (A ++ G) 0 17 G
+    ∷ finds (ept-guest 9) (GuestPhysical 0) (guest-physical-structure 3 0) 0 0 (guest-physical-structure 3 0)
+    ∷ misses (ept-guest 9) (GuestPhysical (0x10000 + 2 ^ 48)) G 0 0
+    ∷ misses (guest 9) (GuestPhysical 0x10000) G 0 0
+    ∷ misses (guest 5) (Linear (2 ^ 47)) (linear 5 1 0 2 0) 0 0
+    -- answers 1 and 3
+    ∷ misses (at program 53 1 0 Root) (Linear 0) (linear 0 1 0 0 0) 0 1
+    ∷ misses (at program 52 1 0 Root) (Linear 0) (linear 0 1 0 0 0 ++ (0 ∷ [])) 0 3
     ∷ []
 
 -- Every row holds.
-cards-hold : all (starred ++ further) ≡ true
-unfolding bytes same holds all without-21 program root root-of-width root-without-21 guest A G A-with combined-global structure invvpid invept invlpg violation-at accepts refuses starred further in-range after-reset kind-of mapping-kind event-kind body-of length-of field mapping fields-in-range starts-record record-length covers joined cut records-within records whole only count canonical operands violation entry new-pcid event event-in-range valid-event invvpid-scope invept-scope invlpg-scope guest-physical-violation-scope combined-violation-scope transition-scope scope entered next-context first good-eptp invvpid-supported bad-invvpid invept-supported bad-invept invalid-opcode exits general-protection invalid-operand out-of-place bad-entry entry-fails creatable creation-fails created no-room table-grounds event-grounds grounds answer new-table dropped-count stepped
+cards-hold : (all holds (starred ++ answered ++ scoped) && lengths && all shows looks) ≡ true
+unfolding bytes same ept-numbers place-numbers numbers buffer holds shows all without-21 program at root outside guest ept-guest A G linear guest-physical combined linear-structure guest-physical-structure combined-structure invvpid invept invlpg ept-violation vm-entry vm-exit new-pcid-cpl accepts moves refuses finds misses starred answered scoped lengths looks in-range after-reset kind-of mapping-kind event-kind body-of length-of field mapping fields-in-range starts-record record-length covers joined cut records-within records whole only count canonical operands violation entry new-pcid event event-in-range valid-event invvpid-scope invept-scope invlpg-scope guest-physical-violation-scope combined-violation-scope transition-scope scope entered next-context first good-eptp invvpid-supported bad-invvpid invept-supported bad-invept invalid-opcode exits general-protection invalid-operand out-of-place bad-entry entry-fails creatable creation-fails created no-room table-grounds event-grounds grounds answer new-table dropped-count stepped overwritten written translates-linear usable usable-records lookup-answer lookup start-of lookup-start
 cards-hold = refl

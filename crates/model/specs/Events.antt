@@ -59,7 +59,8 @@ entry e =
 unfoldable pub new-pcid : List ℕ → NewPcid.NewPcid
 new-pcid e = record { pcid = field Field.pcid e; cpl = field Field.cpl e }
 
--- the event that bytes of a known kind stand for
+-- the event that bytes of a known kind stand for; what it says of other bytes is never asked, since
+-- they are refused with 4
 unfoldable pub event : List ℕ → Event
 event e =
     cond (mapping-kind (kind-of e)) (Creation (mapping e))

@@ -15,25 +15,25 @@ pub data Field : Type 0 where
   linear-address guest-physical-address linear-flag : Field
   vpid-enable ept-enable eptp cpl : Field
 
--- fields are told apart by their place in that list
-abbrev pub place-of : Field → ℕ
-place-of vpid = 0
-place-of pcid = 1
-place-of global = 2
-place-of span = 3
-place-of page = 4
-place-of frame = 5
-place-of ep4ta = 6
-place-of type-number = 7
-place-of low = 8
-place-of high = 9
-place-of linear-address = 10
-place-of guest-physical-address = 11
-place-of linear-flag = 12
-place-of vpid-enable = 13
-place-of ept-enable = 14
-place-of eptp = 15
-place-of cpl = 16
+-- fields are told apart by their number in that list
+abbrev pub field-number : Field → ℕ
+field-number vpid = 0
+field-number pcid = 1
+field-number global = 2
+field-number span = 3
+field-number page = 4
+field-number frame = 5
+field-number ep4ta = 6
+field-number type-number = 7
+field-number low = 8
+field-number high = 9
+field-number linear-address = 10
+field-number guest-physical-address = 11
+field-number linear-flag = 12
+field-number vpid-enable = 13
+field-number ept-enable = 14
+field-number eptp = 15
+field-number cpl = 16
 
 -- a body: its fields in order, with bytes
 abbrev pub Body : Type 0
@@ -51,8 +51,8 @@ mapping-kinds =
     ∷ []
 
 -- "kind | event | body": the events besides the creations
-abbrev pub event-kinds : List (ℕ × Body)
-event-kinds =
+abbrev pub other-event-kinds : List (ℕ × Body)
+other-event-kinds =
     (16, (type-number, 8) ∷ (low, 8) ∷ (high, 8) ∷ [])
     ∷ (17, (type-number, 8) ∷ (low, 8) ∷ (high, 8) ∷ [])
     ∷ (18, (linear-address, 8) ∷ [])
@@ -83,11 +83,11 @@ bytes-of (f ∷ fs) = f .1 + bytes-of fs
 -- where a field starts in a body, and how many bytes it has; 0 bytes where the body lacks it
 abbrev pub offset-in : Body → Field → ℕ
 offset-in [] f = 0
-offset-in (g ∷ gs) f = cond (eqb (place-of f) (place-of (g .0))) 0 (g .1 + offset-in gs f)
+offset-in (g ∷ gs) f = cond (eqb (field-number f) (field-number (g .0))) 0 (g .1 + offset-in gs f)
 
 abbrev pub width-in : Body → Field → ℕ
 width-in [] f = 0
-width-in (g ∷ gs) f = cond (eqb (place-of f) (place-of (g .0))) (g .1) (width-in gs f)
+width-in (g ∷ gs) f = cond (eqb (field-number f) (field-number (g .0))) (g .1) (width-in gs f)
 
 -- "One byte of kind": the first; 0, which is no kind, where there is no byte
 unfoldable pub kind-of : List ℕ → ℕ
@@ -99,11 +99,11 @@ mapping-kind kind = known-in mapping-kinds kind
 
 -- the kind is an event's, a creation's among them
 unfoldable pub event-kind : ℕ → Bool
-event-kind kind = known-in (mapping-kinds ++ event-kinds) kind
+event-kind kind = known-in (mapping-kinds ++ other-event-kinds) kind
 
 -- the body of a kind of event, a mapping's among them
 unfoldable pub body-of : ℕ → Body
-body-of kind = body-in (mapping-kinds ++ event-kinds) kind
+body-of kind = body-in (mapping-kinds ++ other-event-kinds) kind
 
 -- the length of a record or event of a known kind, its kind byte with it
 unfoldable pub length-of : ℕ → ℕ

@@ -14,7 +14,7 @@ use Rattle.model.specs.Context.{current-vpid, current-ept}
 use Rattle.model.specs.Mappings.{mapping, linear, guest-physical, combined, covers}
 use Rattle.model.specs.Tables.{records, only}
 use Rattle.model.specs.Events.{canonical, page-of, guest-physical-in-range}
-use Rattle.model.specs.Scopes.{current-ep4ta, current-pcid-or-global}
+use Rattle.model.specs.Scopes.{is-current-ep4ta, current-pcid-or-global}
 use Rattle.model.specs.Answers.{first, table-grounds}
 
 -- "kinds 1 and 4 with EPT not in use, kinds 3 and 6 of the current EP4TA with EPT in use"
@@ -37,7 +37,7 @@ usable c (GuestPhysical address) m =
     guest-physical-in-range address
     && covers (m .span) (m .page) (page-of address)
     && guest-physical (m .kind)
-    && current-ep4ta (current-ept (c .place)) (m .ep4ta)
+    && is-current-ep4ta (current-ept (c .place)) (m .ep4ta)
 
 -- the usable records of a table, in order
 unfoldable pub usable-records : Context → Address → List ℕ → List (List ℕ)

@@ -35,6 +35,10 @@ guest-physical kind = eqb kind 2 || eqb kind 5
 abbrev pub combined : ℕ → Bool
 combined kind = eqb kind 3 || eqb kind 6
 
+-- a global translation: kinds 1 and 3 with global 1; a structure cache carries no global mark
+abbrev pub global-translation : Mapping → Bool
+global-translation m = (eqb (m .kind) 1 || eqb (m .kind) 3) && eqb (m .global) 1
+
 -- "Span s is 0 to 2 for kinds 1 to 3 and 1 to 3 for kinds 4 to 6."
 abbrev pub span-in-range : ℕ → ℕ → Bool
 span-in-range kind span = cond (leb kind 3) (leb span 2) (leb 1 span && leb span 3)

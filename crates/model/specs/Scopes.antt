@@ -1,5 +1,5 @@
--- Document 01, "Required scopes": which mappings an accepted event invalidates, judged in the context
--- before it (000, 29.4.3.1), and how the event changes the context.
+-- Document 01, "Required scopes": which mappings an accepted event invalidates (000, 29.4.3.1), judged
+-- in the context just before it ("Whole runs"), and how the event changes the context.
 use Prim.Native.Nat.{ℕ}
 use mathlib.Core.Bool.{Bool, true, false, cond, not, _&&_, _||_}
 use lib.Dec.{eqb}
@@ -16,25 +16,25 @@ use Rattle.model.specs.declared.Violation.{Violation}
 use Rattle.model.specs.declared.Entry
 use Rattle.model.specs.Bits.{bits}
 use Rattle.model.specs.Context.{current-vpid, current-ept, after-reset}
-use Rattle.model.specs.Mappings.{linear, guest-physical, combined, covers}
+use Rattle.model.specs.Mappings.{linear, guest-physical, combined, global-translation, covers}
 use Rattle.model.specs.Events.{canonical, page-of}
 
 -- the mapping carries a VPID and a PCID: a linear or combined mapping, kinds 1, 3, 4 and 6
-abbrev pub tagged : Mapping → Bool
-tagged m = linear (m .kind) || combined (m .kind)
+abbrev pub vpid-tagged : Mapping → Bool
+vpid-tagged m = linear (m .kind) || combined (m .kind)
 
 -- "EP4TA is EPTP bits 51 to 12"
 abbrev pub ep4ta-of : ℕ → ℕ
 ep4ta-of eptp = bits 51 12 eptp
 
 -- the EP4TA is the current one; none is while EPT is off
-abbrev pub current-ep4ta : Ept → ℕ → Bool
-current-ep4ta Off ep4ta = false
-current-ep4ta (On current) ep4ta = eqb ep4ta current
+abbrev pub is-current-ep4ta : Ept → ℕ → Bool
+is-current-ep4ta Off ep4ta = false
+is-current-ep4ta (On current) ep4ta = eqb ep4ta current
 
--- the mapping carries the current PCID, or is a global translation; a structure cache's global is 0
+-- the mapping carries the current PCID, or is a global translation
 abbrev pub current-pcid-or-global : Context → Mapping → Bool
-current-pcid-or-global c m = eqb (m .pcid) (c .pcid) || eqb (m .global) 1
+current-pcid-or-global c m = eqb (m .pcid) (c .pcid) || global-translation m
 
 -- the INVVPID descriptor (002, Figure 31-2): VPID in bits 15:0, linear address in bits 127:64
 abbrev pub vpid-named : Operands → ℕ
@@ -42,17 +42,17 @@ vpid-named o = bits 15 0 (o .low)
 
 -- "INVVPID touches kinds 1, 3, 4, 6 only, for all PCIDs and EP4TAs." Type 0 takes the named VPID
 -- covering the address, global or not; 1 the named VPID; 2 every VPID but 0; 3 the named VPID except
--- global translations.
+-- global translations; any other type is refused with 8, so its scope is never asked.
 unfoldable pub invvpid-scope : Operands → Mapping → Bool
 invvpid-scope o m =
-    tagged m
+    vpid-tagged m
     && cond (eqb (o .«type_number») 0) (eqb (m .vpid) (vpid-named o) && covers (m .span) (m .page) (page-of (o .high)))
     (cond (eqb (o .«type_number») 1) (eqb (m .vpid) (vpid-named o))
     (cond (eqb (o .«type_number») 2) (not (eqb (m .vpid) 0))
-    (eqb (m .vpid) (vpid-named o) && not (eqb (m .global) 1))))
+    (eqb (m .vpid) (vpid-named o) && not (global-translation m))))
 
 -- "INVEPT touches kinds 2, 3, 5, 6 only. Type 1: those whose EP4TA is EPTP bits 51 to 12. Type 2: all
--- of them."
+-- of them." Any other type is refused with 8.
 unfoldable pub invept-scope : Operands → Mapping → Bool
 invept-scope o m =
     (guest-physical (m .kind) || combined (m .kind))
@@ -63,7 +63,7 @@ invept-scope o m =
 unfoldable pub invlpg-scope : Context → ℕ → Mapping → Bool
 invlpg-scope c address m =
     canonical address
-    && tagged m
+    && vpid-tagged m
     && eqb (m .vpid) (current-vpid (c .place))
     && covers (m .span) (m .page) (page-of address)
     && current-pcid-or-global c m
@@ -72,7 +72,7 @@ invlpg-scope c address m =
 unfoldable pub guest-physical-violation-scope : Context → Violation → Mapping → Bool
 guest-physical-violation-scope c v m =
     guest-physical (m .kind)
-    && current-ep4ta (current-ept (c .place)) (m .ep4ta)
+    && is-current-ep4ta (current-ept (c .place)) (m .ep4ta)
     && covers (m .span) (m .page) (page-of (v .physical))
 
 -- "With linear flag 1 also kinds 3 and 6 of the current VPID, PCID and EP4TA covering the linear
@@ -83,15 +83,16 @@ combined-violation-scope c v m =
     && combined (m .kind)
     && eqb (m .vpid) (current-vpid (c .place))
     && eqb (m .pcid) (c .pcid)
-    && current-ep4ta (current-ept (c .place)) (m .ep4ta)
+    && is-current-ep4ta (current-ept (c .place)) (m .ep4ta)
     && covers (m .span) (m .page) (page-of (v .linear))
 
--- "VM entry, VM exit: if VPIDs are not enabled for that guest, kinds 1, 3, 4, 6 of VPID 0."
+-- "kinds 1, 3, 4, 6 of VPID 0", for a VM entry or VM exit
 unfoldable pub transition-scope : Mapping → Bool
-transition-scope m = tagged m && eqb (m .vpid) 0
+transition-scope m = vpid-tagged m && eqb (m .vpid) 0
 
--- The required scope of each event. An entry asks the event's VPID flag; an exit asks the context,
--- whose VPID is 0 exactly if VPIDs were not enabled at entry.
+-- The required scope of each event. "VM entry, VM exit: if VPIDs are not enabled for that guest": an
+-- entry asks the event's flag; an exit asks the context, whose VPID is 0 exactly if VPIDs were not
+-- enabled at entry.
 unfoldable pub scope : Context → Event → Mapping → Bool
 scope c (Creation created) m = false
 scope c (Invvpid o) m = invvpid-scope o m

@@ -29,7 +29,7 @@ records-within (suc n) t = cut (record-length t) t (records-within n (drop (reco
 unfoldable pub records : List ℕ → List (List ℕ)
 records t = records-within (length t) t
 
--- t is whole, valid records
+-- t is whole, valid records: those at its front are all of it
 unfoldable pub whole : List ℕ → Bool
 whole t = eqb (length (joined (records t))) (length t)
 

@@ -1,7 +1,7 @@
 -- Document 01, "Whole runs": the first run, the second run with its removals, and demand 3 as one
 -- claim about the whole list of events.
 use Prim.Native.Nat.{ℕ, zero, suc, _≤_}
-use mathlib.Core.Bool.{Bool, true, false, cond, _||_}
+use mathlib.Core.Bool.{Bool, true, false, cond, _&&_, _||_}
 use mathlib.Core.List.{List, [], _∷_, map}
 use mathlib.Core.Path.{_≡_}
 use lib.Dec.{eqb}
@@ -9,8 +9,9 @@ use lib.ListN.{length, take}
 use Rattle.model.specs.declared.Context.{Context}
 use Rattle.model.specs.declared.Address.{Address}
 use Rattle.model.specs.Context.{after-reset}
+use Rattle.model.specs.Layouts.{kind-of, mapping-kind}
 use Rattle.model.specs.Tables.{limit, joined, records}
-use Rattle.model.specs.Steps.{stepped, written}
+use Rattle.model.specs.Steps.{stepped, overwritten, written}
 use Rattle.model.specs.Lookups.{usable-records}
 use Rattle.runs.specs.Book.{Report, opened, book-table, book-reports, book-of}
 
@@ -42,7 +43,12 @@ run-after s e =
       front = run-written s e;
       back = s .front;
     })
-    (record { context = s .context; table = s .table; front = s .front; back = run-written s e })
+    (record {
+      context = stepped (s .context) (s .table) e (length (s .back)) .context;
+      table = s .table;
+      front = s .front;
+      back = run-written s e;
+    })
 
 unfoldable pub run-report : Run → List ℕ → Report
 run-report s e =
@@ -74,7 +80,12 @@ without (gone ∷ more) (r ∷ rs) = cond gone (without more rs) (r ∷ without 
 
 unfoldable pub run-without : List Bool → Run → Run
 run-without gone s =
-    record { context = s .context; table = joined (without gone (records (s .table))); front = s .front; back = s .back }
+    record {
+      context = s .context;
+      table = joined (without gone (records (s .table)));
+      front = overwritten (joined (without gone (records (s .table)))) (s .front);
+      back = s .back;
+    }
 
 -- "An in-order part is what such a removal leaves."
 unfoldable pub InOrderPart : List (List ℕ) → List (List ℕ) → Type 0
@@ -98,10 +109,10 @@ second-reports removals s (e ∷ es) =
     run-report (run-without (removals 0) s) e
     ∷ second-reports (λ n. removals (suc n)) (run-after (run-without (removals 0) s) e) es
 
--- "Refused for room means answer 12."
-unfoldable pub refused-for-room : List Report → Bool
-refused-for-room [] = false
-refused-for-room (r ∷ rs) = eqb (r .answer) 12 || refused-for-room rs
+-- the run refuses a creation for room: "Refused for room means answer 12."
+unfoldable pub refused-for-room : Run → List (List ℕ) → Bool
+refused-for-room s [] = false
+refused-for-room s (e ∷ es) = (mapping-kind (kind-of e) && eqb (run-answer s e) 12) || refused-for-room (run-after s e) es
 
 -- a run's usable records are an in-order part of the other's, whatever address is looked up
 unfoldable pub UsableWithin : Run → Run → Type 0
@@ -146,7 +157,7 @@ pub record Demand3 (c : Context) (es : List (List ℕ)) (a b : List ℕ) : Type 
   pub second-run : (removals : ℕ → List Bool) (a′ b′ : List ℕ)
       → limit ≤ length a′
       → limit ≤ length b′
-      → refused-for-room (run-reports (started c a b) es) ≡ false
+      → refused-for-room (started c a b) es ≡ false
       → SecondRun c es a b removals a′ b′
 
 abbrev pub demand-3 : Type 0

@@ -2,7 +2,7 @@
 -- the second answers alike and keeps an in-order part of the first's records.
 use Prim.Native.Nat.{ℕ, suc, _≤_}
 use mathlib.Core.Path.{_≡_, refl, sym, ap, ap₂, _∙_}
-use mathlib.Core.Bool.{Bool, false, not}
+use mathlib.Core.Bool.{Bool, false, not, _&&_}
 use mathlib.Mathlib.Data.Bool.Basic.{or-eq-false-eq-eq-false-and-eq-false}
 use mathlib.Core.List.{List, [], _∷_, map}
 use native.Mathlib.Omega.{arith}
@@ -10,6 +10,7 @@ use lib.Dec.{eqb}
 use lib.ListN.{length}
 use borrow.Author.Tests.{eqb-false}
 use Rattle.model.specs.declared.Context.{Context}
+use Rattle.model.specs.Layouts.{kind-of, mapping-kind}
 use Rattle.model.specs.Mappings.{mapping}
 use Rattle.model.specs.Tables.{limit, joined, records, only}
 use Rattle.model.specs.Answers.{answer}
@@ -19,8 +20,8 @@ use Rattle.runs.specs.Runs.{Run, started, run-answer, run-after, run-rep
 use Rattle.laws.specs.Tables.{records-valid, records-joined, joined-whole, whole-joined, length-joined-records}
 use Rattle.laws.specs.Answers.{answer-shorter}
 use Rattle.runs.specs.Laws.Parts.{every-without, length-joined-without, part-refl, part-trans, part-only, part-append}
-use Rattle.laws.specs.Steps.{creation, new-records, records-new-table}
-use Rattle.runs.specs.Laws.Steps.{by-answer, run-after-accepted, run-after-refused, run-report-accepted, run-report-refused, Sound, sound-started, sound-answer, run-accepted-valid, sound-after}
+use Rattle.laws.specs.Steps.{creation, new-records, records-new-table, length-overwritten}
+use Rattle.runs.specs.Laws.Steps.{by-answer, run-after-accepted, run-after-refused, run-report-accepted, run-report-refused, Sound, sound-started, sound-answer, run-accepted-valid, sound-after, room-refuses-creations}
 
 -- a run beside the full one: the same context, and a part of its records
 pub record Within (s full : Run) : Type 0 where
@@ -47,7 +48,7 @@ sound-without gone s k =
       whole = joined-whole (every-without gone (records-valid (s .table)));
       short =
           omega (arith, length-joined-without gone (records (s .table)), length-joined-records (s .table), k .short);
-      front = k .front;
+      front = omega (arith, k .front, length-overwritten (joined (without gone (records (s .table)))) (s .front));
       back = k .back;
     }
 
@@ -127,34 +128,35 @@ within-after s full e k room = by-answer (run-answer full e) accepted refused
     refused h = rw (run-after-refused s e (λ z. h (sym same ∙ z)), run-after-refused full e h) k
 
 -- a whole list of events, none of which the full run refuses for room
-not-for-room : (s : Run) (e : List ℕ) (es : List (List ℕ)) → refused-for-room (run-reports s (e ∷ es)) ≡ false
-    → (run-answer s e ≡ 12 → ⊥) × (refused-for-room (run-reports (run-after s e) es) ≡ false)
-unfolding refused-for-room run-reports run-report
-not-for-room s e es h =
-    let parts = or-eq-false-eq-eq-false-and-eq-false (eqb (run-answer s e) 12) (refused-for-room (run-reports (run-after s e) es)) .0 h in
-    (eqb-false (run-answer s e) 12 (parts .0), parts .1)
+not-for-room : (s : Run) (e : List ℕ) (es : List (List ℕ)) → Sound s → refused-for-room s (e ∷ es) ≡ false
+    → (run-answer s e ≡ 12 → ⊥) × (refused-for-room (run-after s e) es ≡ false)
+unfolding refused-for-room
+not-for-room s e es k h =
+    let creation = mapping-kind (kind-of e) && eqb (run-answer s e) 12 in
+    let parts = or-eq-false-eq-eq-false-and-eq-false creation (refused-for-room (run-after s e) es) .0 h in
+    (λ full. eqb-false (run-answer s e) 12 (rw (room-refuses-creations s e k full) at (parts .0)) full, parts .1)
 
 pub within-verdicts : (removals : ℕ → List Bool) (s full : Run) (es : List (List ℕ)) → Within s full
-    → refused-for-room (run-reports full es) ≡ false
+    → refused-for-room full es ≡ false
     → map verdict (second-reports removals s es) ≡ map verdict (run-reports full es)
 unfolding second-reports run-reports
 within-verdicts removals s full [] k h = refl
 within-verdicts removals s full (e ∷ es) k h =
-    let room = not-for-room full e es h in
+    let room = not-for-room full e es (k .full-sound) h in
     let kept = within-without (removals 0) s full k in
     ap₂ (λ v vs. v ∷ vs) (within-verdict (run-without (removals 0) s) full e kept (room .0))
     (within-verdicts (λ n. removals (suc n)) (run-after (run-without (removals 0) s) e) (run-after full e) es
     (within-after (run-without (removals 0) s) full e kept (room .0)) (room .1))
 
 pub within-compared : (removals : ℕ → List Bool) (s full : Run) (es : List (List ℕ)) → Within s full
-    → refused-for-room (run-reports full es) ≡ false
+    → refused-for-room full es ≡ false
     → Compared (second-gaps removals s es) (run-states full es)
 unfolding second-gaps run-states
 within-compared removals s full [] k h =
     let kept = within-without (removals 0) s full k in
     more (k .context) (within-usable s full k) (within-usable (run-without (removals 0) s) full kept) none
 within-compared removals s full (e ∷ es) k h =
-    let room = not-for-room full e es h in
+    let room = not-for-room full e es (k .full-sound) h in
     let kept = within-without (removals 0) s full k in
     more (k .context) (within-usable s full k) (within-usable (run-without (removals 0) s) full kept)
     (within-compared (λ n. removals (suc n)) (run-after (run-without (removals 0) s) e) (run-after full e) es
@@ -162,7 +164,7 @@ within-compared removals s full (e ∷ es) k h =
 
 pub second-run-holds : (c : Context) (es : List (List ℕ)) (a b : List ℕ) (removals : ℕ → List Bool) (a′ b′ : List ℕ)
     → limit ≤ length a → limit ≤ length b → limit ≤ length a′ → limit ≤ length b′
-    → refused-for-room (run-reports (started c a b) es) ≡ false
+    → refused-for-room (started c a b) es ≡ false
     → SecondRun c es a b removals a′ b′
 second-run-holds c es a b removals a′ b′ h k h′ k′ room =
     let begun = within-started c a b a′ b′ h k h′ k′ in

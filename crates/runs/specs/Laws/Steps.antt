@@ -47,7 +47,8 @@ run-after-accepted s e h =
 pub run-after-refused : (s : Run) (e : List ℕ) → (run-answer s e ≡ 0 → ⊥) → run-after s e ≡ s
 unfolding run-after run-written written
 run-after-refused s e h =
-    rw (ne-eqb (run-answer s e) 0 h, ne-eqb (answer (s .context) (s .table) e (length (s .back))) 0 (λ z. h (run-answer-is s e ∙ z)))
+    let refused : answer (s .context) (s .table) e (length (s .back)) ≡ 0 → ⊥ = λ z. h (run-answer-is s e ∙ z) in
+    rw (ne-eqb (run-answer s e) 0 h, stepped-refused (s .context) (s .table) e (length (s .back)) refused, ne-eqb (answer (s .context) (s .table) e (length (s .back))) 0 refused)
 
 -- what is reported of an event, by its answer
 pub run-report-accepted : (s : Run) (e : List ℕ) → run-answer s e ≡ 0

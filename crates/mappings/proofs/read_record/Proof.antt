@@ -1,0 +1,25 @@
+-- The length says whether a record starts at the front, and then it is held.
+use mathlib.Core.Path.{sym, ap₂, _∙_}
+use Rattle.model.specs.declared.Reading.the-variants.{Record}
+use Rattle.mappings.specs.Fields.{held-of-record-length, reading-nothing, reading-record}
+use borrow.Author.Needs.{needs}
+use Rattle.mappings.proofs.read_record.Statement.{statement}
+use Rattle.mappings.proofs.read_record.Tie as tie
+
+length-of-record-requires : tie.Need-length-of-record-requires
+length-of-record-requires c κs = search needs
+
+returns : tie.Need-returns
+returns c = sym (reading-nothing _ (sym (c .before .length-of-record .ensures) ∙ c .if1 .taken))
+
+mapping-of-requires : tie.Need-mapping-of-requires
+mapping-of-requires c κs = held-of-record-length _ (λ e. c .if1 .left (c .before .length-of-record .ensures ∙ e))
+
+returns-2 : tie.Need-returns-2
+returns-2 c =
+    let length = c .before .before .length-of-record .ensures in
+    sym (reading-record _ (λ e. c .before .if1 .left (length ∙ e)) ∙ ap₂ Record (sym (c .mapping-of .ensures)) (sym length))
+
+pub read-record-spec : {M : Type 1} → statement M
+read-record-spec =
+    tie.close (tie.spec length-of-record-requires returns mapping-of-requires returns-2)

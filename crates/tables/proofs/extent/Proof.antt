@@ -1,0 +1,61 @@
+-- The walk stands behind whole, valid records. The measure is what is left of the length.
+use Prim.Native.Nat.{_-_}
+use native.Mathlib.Omega.{arith}
+use borrow.Author.Needs.{needs}
+use lib.ListN.{length}
+use Rattle.tables.specs.Walk.{Walked, walk-start, walk-on, walk-stop, walk-end}
+use Rattle.tables.proofs.extent.Statement.{statement}
+use Rattle.tables.proofs.extent.Tie as tie
+
+abbrev Inv-loop : tie.InvT-loop
+Inv-loop table at₀ at = Walked table at
+
+abbrev μ-loop : tie.MeasureT-loop
+μ-loop table at₀ at = length table - at
+
+loop-holds : tie.Need-loop-holds Inv-loop μ-loop
+loop-holds c = walk-start _
+
+sub-length-of-record : tie.Need-sub-length-of-record Inv-loop μ-loop
+sub-length-of-record c = search needs
+
+part-length-of-record-start : tie.Need-part-length-of-record-start Inv-loop μ-loop
+part-length-of-record-start c = search needs
+
+part-length-of-record-end : tie.Need-part-length-of-record-end Inv-loop μ-loop
+part-length-of-record-end c = search needs
+
+length-of-record-requires : tie.Need-length-of-record-requires Inv-loop μ-loop
+length-of-record-requires c κs = search needs
+
+returns : tie.Need-returns Inv-loop μ-loop
+returns c = walk-stop (c .before .before .before .before .loop .inv) (c .before .length-of-record .ensures) (c .if1 .taken)
+
+loop-again : tie.Need-loop-again Inv-loop μ-loop
+loop-again c = walk-on (c .before .before .before .before .loop .inv) (c .before .length-of-record .ensures) (c .if1 .left)
+
+add-at : tie.Need-add-at Inv-loop μ-loop
+add-at c = omega (arith, loop-again c)
+
+loop-less : tie.Need-loop-less Inv-loop μ-loop
+loop-less c = omega (arith, loop-again c)
+
+returns-2 : tie.Need-returns-2 Inv-loop μ-loop
+returns-2 c = walk-end (c .before .loop .inv) (c .loop-test .left)
+
+pub extent-spec : {M : Type 1} → statement M
+extent-spec =
+    tie.close
+    (tie.spec
+    Inv-loop
+    μ-loop
+    loop-holds
+    sub-length-of-record
+    part-length-of-record-start
+    part-length-of-record-end
+    length-of-record-requires
+    returns
+    add-at
+    loop-less
+    loop-again
+    returns-2)

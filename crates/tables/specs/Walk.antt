@@ -1,0 +1,43 @@
+-- The walk over a table, record by record: where it stands, and what each turn does.
+use Prim.Native.Nat.{ℕ, zero, suc, _+_, _-_, _≤_}
+use mathlib.Core.Path.{_≡_, refl, sym, ap, _∙_}
+use mathlib.Core.List.{List}
+use native.Mathlib.Omega.{arith}
+use lib.ListN.{length, take, drop, length-drop}
+use lib.Seq.{length-take-le}
+use Rattle.model.specs.Mappings.{record-length}
+use Rattle.model.specs.Tables.{joined, records}
+use Rattle.laws.specs.Mappings.{record-length-le}
+use Rattle.laws.specs.Tables.{rest-of-drop, records-none, records-drop-cons, records-drop-end, length-joined-cons}
+
+-- up to the position stand whole, valid records: the extent is the position and that of the rest
+pub record Walked (t : List ℕ) (at : ℕ) : Type 0 where
+  pub within : at ≤ length t
+  pub counted : at + length (joined (records (drop at t))) ≡ length (joined (records t))
+
+pub walk-start : (t : List ℕ) → Walked t 0
+walk-start t = record { within = omega arith; counted = omega arith }
+
+pub walk-end : {t : List ℕ} {at : ℕ} → Walked t at → length t ≤ at → at ≡ length (joined (records t))
+unfolding joined
+walk-end {t} {at} w e = let counted = rw (records-drop-end t at e) at (w .counted) in omega arith
+
+module _ {t : List ℕ} {at n : ℕ} (w : Walked t at) (read : n ≡ record-length (take (length t - at) (drop at t))) where
+  length-read : record-length (drop at t) ≡ n
+  length-read = sym (read ∙ ap record-length (rest-of-drop at t))
+
+  pub walk-stop : n ≡ 0 → at ≡ length (joined (records t))
+  unfolding joined
+  walk-stop none = let counted = rw (records-none (drop at t) (length-read ∙ none)) at (w .counted) in omega arith
+
+  pub walk-on : (n ≡ 0 → ⊥) → Walked t (at + n)
+  walk-on some = go n length-read some
+    where
+      go : (n : ℕ) → record-length (drop at t) ≡ n → (n ≡ 0 → ⊥) → Walked t (at + n)
+      go zero e some = absurd (some refl)
+      go (suc n) e some =
+          let within : suc n ≤ length (drop at t) = omega (arith, record-length-le (drop at t)) in
+          let long = length-take-le (suc n) (drop at t) within in
+          let first = length-joined-cons (take (suc n) (drop at t)) (records (drop (at + suc n) t)) in
+          let counted = rw (records-drop-cons t at n e) at (w .counted) in
+          record { within = omega (arith, length-drop at t); counted = omega arith }
