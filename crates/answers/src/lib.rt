@@ -1,0 +1,253 @@
+// The answers that a context and an event alone give: 5 to 11. Each ground is a function of its own;
+// the lowest number that applies is given.
+use model::Context;
+use model::Entry;
+use model::Event;
+use model::Mapping;
+use model::Operands;
+ghost use mathlib.Core.Path.{_≡_};
+ghost use Prim.Native.Nat.{_/_, _^_};
+ghost use mathlib.Core.Bool.{cond};
+ghost use lib.Dec.{eqb};
+ghost use Rattle.model.specs.Answers.{kind-number, good-eptp, invvpid-supported, bad-invvpid, invept-supported, bad-invept, invalid-opcode, exits, general-protection, invalid-operand, out-of-place, bad-entry, entry-fails, creatable, creation-fails, event-answer};
+
+// The kind of an event.
+pub fn kind_of_event(e: Event) -> u64
+    ensures { λ r. ⌜ r ≡ kind-number e ⌝ }
+{
+    match e {
+        Event::Creation(mapping) => mapping.kind,
+        Event::Invvpid(_) => 16,
+        Event::Invept(_) => 17,
+        Event::Invlpg(_) => 18,
+        Event::EptViolation(_) => 19,
+        Event::Entry(_) => 20,
+        Event::Exit(_) => 21,
+        Event::Vmxon => 22,
+        Event::Vmxoff => 23,
+        Event::NewPcid(_) => 24,
+        Event::Reset => 25,
+    }
+}
+
+// Bits 63 to N of an EPTP are zero.
+fn is_within_width(eptp: u64, width: u64) -> bool
+    ensures { λ r. ⌜ r ≡ eqb (eptp / 2 ^ width) 0 ⌝ }
+{
+    if 64 <= width {
+        return true;
+    }
+    (eptp >> width) == 0
+}
+
+// The EPTP is good under the context's capability and width.
+pub fn is_good_eptp(c: Context, eptp: u64) -> bool
+    ensures { λ r. ⌜ r ≡ good-eptp c eptp ⌝ }
+{
+    let capability = c.capability;
+    let memory_type = eptp % 8;
+    (((memory_type == 0) & ((capability >> 8) % 2 == 1))
+        | ((memory_type == 6) & ((capability >> 14) % 2 == 1)))
+        & (((eptp >> 3) % 8 == 3) & ((capability >> 6) % 2 == 1))
+        & (!((eptp >> 6) % 2 == 1) | ((capability >> 21) % 2 == 1))
+        & ((eptp >> 7) % 32 == 0)
+        & is_within_width(eptp, c.width)
+}
+
+// The capability has this INVVPID type.
+pub fn is_invvpid_supported(capability: u64, type_number: u64) -> bool
+    ensures { λ r. ⌜ r ≡ invvpid-supported capability «type_number» ⌝ }
+{
+    match type_number {
+        0 => (capability >> 40) % 2 == 1,
+        1 => (capability >> 41) % 2 == 1,
+        2 => (capability >> 42) % 2 == 1,
+        3 => (capability >> 43) % 2 == 1,
+        _ => false,
+    }
+}
+
+// The operands of an INVVPID are invalid.
+pub fn is_bad_invvpid(c: Context, o: Operands) -> bool
+    ensures { λ r. ⌜ r ≡ bad-invvpid c o ⌝ }
+{
+    let type_number = o.type_number;
+    let named = o.low % 65536;
+    let reserved = (o.low >> 16) % 281474976710656;
+    !is_invvpid_supported(c.capability, type_number)
+        | !(reserved == 0)
+        | ((named == 0) & !(type_number == 2))
+        | ((type_number == 0) & !addresses::is_canonical(o.high))
+}
+
+// The capability has this INVEPT type.
+pub fn is_invept_supported(capability: u64, type_number: u64) -> bool
+    ensures { λ r. ⌜ r ≡ invept-supported capability «type_number» ⌝ }
+{
+    match type_number {
+        1 => (capability >> 25) % 2 == 1,
+        2 => (capability >> 26) % 2 == 1,
+        _ => false,
+    }
+}
+
+// The operands of an INVEPT are invalid.
+pub fn is_bad_invept(c: Context, o: Operands) -> bool
+    ensures { λ r. ⌜ r ≡ bad-invept c o ⌝ }
+{
+    let type_number = o.type_number;
+    !is_invept_supported(c.capability, type_number)
+        | !(o.high == 0)
+        | ((type_number == 1) & !is_good_eptp(c, o.low))
+}
+
+// 5: the event is an undefined opcode here.
+pub fn is_invalid_opcode(c: Context, e: Event) -> bool
+    ensures { λ r. ⌜ r ≡ invalid-opcode c e ⌝ }
+{
+    let kind = kind_of_event(e);
+    let capability = c.capability;
+    let place = c.place;
+    let needs_vmx = (kind == 16) | ((kind == 17) | ((kind == 20) | (kind == 23)));
+    (needs_vmx & contexts::is_outside(place))
+        | ((kind == 16) & !((capability >> 32) % 2 == 1))
+        | ((kind == 17) & !((capability >> 20) % 2 == 1))
+}
+
+// 6: the event causes a VM exit here.
+pub fn is_exiting(c: Context, e: Event) -> bool
+    ensures { λ r. ⌜ r ≡ exits c e ⌝ }
+{
+    let kind = kind_of_event(e);
+    let place = c.place;
+    ((kind == 16) | ((kind == 17) | ((kind == 20) | ((kind == 22) | (kind == 23)))))
+        & contexts::is_in_guest(place)
+}
+
+// 7: the event is a general-protection fault here.
+pub fn is_protected(c: Context, e: Event) -> bool
+    ensures { λ r. ⌜ r ≡ general-protection c e ⌝ }
+{
+    let kind = kind_of_event(e);
+    ((kind == 16)
+        | ((kind == 17) | ((kind == 18) | ((kind == 20) | ((kind == 22) | (kind == 23))))))
+        & (0 < c.cpl)
+}
+
+// 8: the event has invalid operands here.
+pub fn is_invalid_operand(c: Context, e: Event) -> bool
+    ensures { λ r. ⌜ r ≡ invalid-operand c e ⌝ }
+{
+    match e {
+        Event::Invvpid(o) => is_bad_invvpid(c, o),
+        Event::Invept(o) => is_bad_invept(c, o),
+        _ => false,
+    }
+}
+
+// 9: the event has no place here.
+pub fn is_out_of_place(c: Context, e: Event) -> bool
+    ensures { λ r. ⌜ r ≡ out-of-place c e ⌝ }
+{
+    let kind = kind_of_event(e);
+    let place = c.place;
+    let ept = contexts::ept(place);
+    let in_root = contexts::is_in_root(place);
+    let in_guest = contexts::is_in_guest(place);
+    let in_use = contexts::is_ept_in_use(ept);
+    ((kind == 22) & in_root) | ((kind == 21) & !in_guest) | ((kind == 19) & !in_use)
+}
+
+// The fields of a VM entry fail it.
+pub fn is_bad_entry(c: Context, n: Entry) -> bool
+    ensures { λ r. ⌜ r ≡ bad-entry c n ⌝ }
+{
+    ((n.vpids == 1) & (n.vpid == 0)) | ((n.ept == 1) & !is_good_eptp(c, n.eptp))
+}
+
+// 10: the event is a VM entry that fails.
+pub fn is_failing_entry(c: Context, e: Event) -> bool
+    ensures { λ r. ⌜ r ≡ entry-fails c e ⌝ }
+{
+    match e {
+        Event::Entry(n) => is_bad_entry(c, n),
+        _ => false,
+    }
+}
+
+// The mapping can be created here.
+pub fn is_creatable(c: Context, m: Mapping) -> bool
+    ensures { λ r. ⌜ r ≡ creatable c m ⌝ }
+{
+    let kind = m.kind;
+    let same_pcid = m.pcid == c.pcid;
+    let place = c.place;
+    let ept = contexts::ept(place);
+    let same_vpid = m.vpid == contexts::vpid(place);
+    let in_use = contexts::is_ept_in_use(ept);
+    let current = contexts::is_current_ep4ta(ept, m.ep4ta);
+    (((kind == 1) | (kind == 4)) & !in_use & same_vpid & same_pcid)
+        | (((kind == 2) | (kind == 5)) & current)
+        | (((kind == 3) | (kind == 6)) & current & same_vpid & same_pcid)
+}
+
+// 11: the event is a creation that cannot be made here.
+pub fn is_failing_creation(c: Context, e: Event) -> bool
+    ensures { λ r. ⌜ r ≡ creation-fails c e ⌝ }
+{
+    match e {
+        Event::Creation(m) => !is_creatable(c, m),
+        _ => false,
+    }
+}
+
+// The number of the first ground that applies, or 0.
+fn first_ground(
+    opcode: bool,
+    exit: bool,
+    protection: bool,
+    operand: bool,
+    place: bool,
+    entry: bool,
+    creation: bool,
+) -> u64
+    ensures { λ r. ⌜ r ≡ cond opcode 5 (cond exit 6 (cond protection 7 (cond operand 8 (cond place 9 (cond entry 10 (cond creation 11 0)))))) ⌝ }
+{
+    if opcode {
+        return 5;
+    }
+    if exit {
+        return 6;
+    }
+    if protection {
+        return 7;
+    }
+    if operand {
+        return 8;
+    }
+    if place {
+        return 9;
+    }
+    if entry {
+        return 10;
+    }
+    if creation {
+        return 11;
+    }
+    0
+}
+
+// The lowest number of 5 to 11 that applies, or 0.
+pub fn answer_to_event(c: Context, e: Event) -> u64
+    ensures { λ r. ⌜ r ≡ event-answer c e ⌝ }
+{
+    first_ground(
+        is_invalid_opcode(c, e),
+        is_exiting(c, e),
+        is_protected(c, e),
+        is_invalid_operand(c, e),
+        is_out_of_place(c, e),
+        is_failing_entry(c, e),
+        is_failing_creation(c, e),
+    )
+}

@@ -1,0 +1,134 @@
+-- Each arm's kind is what its reader requires; kinds 22, 23 and 25 have a kind byte alone.
+use mathlib.Core.Path.{refl}
+use native.Mathlib.Omega.{arith}
+use borrow.Author.Needs.{needs}
+use Rattle.model.specs.Layouts.{kind-of, mapping-kind, event-kind, length-of, body-of}
+use Rattle.model.specs.Events.{event, event-in-range}
+use Rattle.events.proofs.Laws.{invalid-empty, invalid-kind, invalid-length, mapping-kind-within, read-valid}
+use Rattle.events.proofs.read_event.Statement.{statement}
+use Rattle.events.proofs.read_event.Tie as tie
+
+returns : tie.Need-returns
+returns c = invalid-empty _ (c .if1 .taken)
+
+shared-slice-read-match : tie.Need-shared-slice-read-match
+shared-slice-read-match c = search needs
+
+read-invvpid-requires : tie.Need-read-invvpid-requires
+unfolding kind-of
+read-invvpid-requires c κs = c .match .keys1
+
+read-invept-requires : tie.Need-read-invept-requires
+unfolding kind-of
+read-invept-requires c κs = c .match .keys2
+
+read-invlpg-requires : tie.Need-read-invlpg-requires
+unfolding kind-of
+read-invlpg-requires c κs = c .match .keys3
+
+read-violation-requires : tie.Need-read-violation-requires
+unfolding kind-of
+read-violation-requires c κs = c .match .keys4
+
+read-entry-requires : tie.Need-read-entry-requires
+unfolding kind-of
+read-entry-requires c κs = c .match .keys5
+
+read-exit-requires : tie.Need-read-exit-requires
+unfolding kind-of
+read-exit-requires c κs = c .match .keys6
+
+read-new-pcid-requires : tie.Need-read-new-pcid-requires
+unfolding kind-of
+read-new-pcid-requires c κs = c .match .keys9
+
+read-creation-requires : tie.Need-read-creation-requires
+unfolding kind-of
+read-creation-requires c κs = mapping-kind-within _ (c .before .if5 .left) (c .if6 .taken)
+
+returns-2 : tie.Need-returns-2
+returns-2 c = search needs
+
+returns-3 : tie.Need-returns-3
+returns-3 c = search needs
+
+returns-4 : tie.Need-returns-4
+returns-4 c = search needs
+
+returns-5 : tie.Need-returns-5
+returns-5 c = search needs
+
+returns-6 : tie.Need-returns-6
+returns-6 c = search needs
+
+returns-7 : tie.Need-returns-7
+returns-7 c = search needs
+
+returns-8 : tie.Need-returns-8
+unfolding kind-of event mapping-kind event-kind length-of body-of event-in-range
+returns-8 c = read-valid _ 22 _ (c .before .match .keys7) refl (c .if2 .taken) (rw (c .before .match .keys7)) refl
+
+returns-9 : tie.Need-returns-9
+unfolding kind-of length-of body-of
+returns-9 c = invalid-length _ 22 (c .before .match .keys7) (c .if2 .left)
+
+returns-10 : tie.Need-returns-10
+unfolding kind-of event mapping-kind event-kind length-of body-of event-in-range
+returns-10 c = read-valid _ 23 _ (c .before .match .keys8) refl (c .if3 .taken) (rw (c .before .match .keys8)) refl
+
+returns-11 : tie.Need-returns-11
+unfolding kind-of length-of body-of
+returns-11 c = invalid-length _ 23 (c .before .match .keys8) (c .if3 .left)
+
+returns-12 : tie.Need-returns-12
+returns-12 c = search needs
+
+returns-13 : tie.Need-returns-13
+unfolding kind-of event mapping-kind event-kind length-of body-of event-in-range
+returns-13 c = read-valid _ 25 _ (c .before .match .keys10) refl (c .if4 .taken) (rw (c .before .match .keys10)) refl
+
+returns-14 : tie.Need-returns-14
+unfolding kind-of length-of body-of
+returns-14 c = invalid-length _ 25 (c .before .match .keys10) (c .if4 .left)
+
+returns-15 : tie.Need-returns-15
+returns-15 c = search needs
+
+returns-16 : tie.Need-returns-16
+unfolding kind-of
+returns-16 c = invalid-kind _ (omega arith) (c .before .match .rest)
+
+returns-17 : tie.Need-returns-17
+unfolding kind-of
+returns-17 c = invalid-kind _ (omega arith) (c .before .before .match .rest)
+
+pub read-event-spec : {M : Type 1} → statement M
+read-event-spec =
+    tie.close
+    (tie.spec
+    returns
+    shared-slice-read-match
+    read-invvpid-requires
+    read-invept-requires
+    read-invlpg-requires
+    read-violation-requires
+    read-entry-requires
+    read-exit-requires
+    read-new-pcid-requires
+    read-creation-requires
+    returns-2
+    returns-3
+    returns-4
+    returns-5
+    returns-6
+    returns-7
+    returns-8
+    returns-9
+    returns-10
+    returns-11
+    returns-12
+    returns-13
+    returns-14
+    returns-15
+    returns-16
+    returns-17)

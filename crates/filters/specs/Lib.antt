@@ -1,0 +1,3 @@
+pub mod Kept
+pub mod Walk
+pub mod Sweep

@@ -1,0 +1,100 @@
+-- Each early return makes one conjunct of the definition false; past the last, the cover test decides.
+use mathlib.Core.Bool.{and-false}
+use mathlib.Core.Path.{refl, ap, ap₂, _∙_}
+use borrow.Author.Needs.{needs}
+use borrow.Author.Tests.{ne-eqb}
+use lib.Dec.{eqb}
+use Rattle.model.specs.Mappings.{combined}
+use Rattle.model.specs.Scopes.{is-current-ep4ta}
+use Rattle.scopes.proofs.Laws.{denied, passed}
+use Rattle.scopes.proofs.is_in_combined_violation_scope.Statement.{statement}
+use Rattle.scopes.proofs.is_in_combined_violation_scope.Tie as tie
+
+returns : tie.Need-returns
+unfolding Rattle.model.specs.Scopes.combined-violation-scope
+returns c = rw (ne-eqb _ 1 (c .if1 .taken))
+
+kind-requires : tie.Need-kind-requires
+kind-requires c κs = search needs
+
+returns-2 : tie.Need-returns-2
+unfolding Rattle.model.specs.Scopes.combined-violation-scope
+returns-2 c = rw (denied (ap combined (c .before .kind .ensures)) (c .if2 .taken), and-false)
+
+ept-requires : tie.Need-ept-requires
+ept-requires c κs = search needs
+
+vpid-requires : tie.Need-vpid-requires
+vpid-requires c κs = search needs
+
+vpid-requires-2 : tie.Need-vpid-requires-2
+vpid-requires-2 c κs = search needs
+
+returns-3 : tie.Need-returns-3
+unfolding Rattle.model.specs.Scopes.combined-violation-scope
+returns-3 c =
+    rw (denied (ap₂ eqb (c .before .before .vpid .ensures) (c .before .vpid2 .ensures)) (c .if3 .taken), and-false)
+
+pcid-requires : tie.Need-pcid-requires
+pcid-requires c κs = search needs
+
+returns-4 : tie.Need-returns-4
+unfolding Rattle.model.specs.Scopes.combined-violation-scope
+returns-4 c = rw (denied (ap₂ eqb (c .before .pcid .ensures) refl) (c .if4 .taken), and-false)
+
+ep4ta-requires : tie.Need-ep4ta-requires
+ep4ta-requires c κs = search needs
+
+is-current-ep4ta-requires : tie.Need-is-current-ep4ta-requires
+is-current-ep4ta-requires c κs = search needs
+
+returns-5 : tie.Need-returns-5
+unfolding Rattle.model.specs.Scopes.combined-violation-scope
+returns-5 c =
+    let current = ap₂ is-current-ep4ta (c .before .before .before .before .before .before .before .before .ept .ensures) (c .before .before .ep4ta .ensures) in
+    rw (denied (c .before .is-current-ep4ta .ensures ∙ current) (c .if5 .taken), and-false)
+
+page-requires : tie.Need-page-requires
+page-requires c κs = search needs
+
+is-covering-requires : tie.Need-is-covering-requires
+is-covering-requires c κs = search needs
+
+returns-6 : tie.Need-returns-6
+unfolding Rattle.model.specs.Scopes.combined-violation-scope
+returns-6 c =
+    let c5 = c .before .before in
+    let c4 = c5 .before .before .before in
+    let c3 = c4 .before .before in
+    let c2 = c3 .before .before .before .before in
+    let c1 = c2 .before .before in
+    let current = ap₂ is-current-ep4ta (c3 .before .before .before .ept .ensures) (c5 .before .before .ep4ta .ensures) in
+    rw (
+      c1 .if1 .left,
+      passed (ap combined (c2 .before .kind .ensures)) (c2 .if2 .left),
+      passed (ap₂ eqb (c3 .before .before .vpid .ensures) (c3 .before .vpid2 .ensures)) (c3 .if3 .left),
+      passed (ap₂ eqb (c4 .before .pcid .ensures) refl) (c4 .if4 .left),
+      passed (c5 .before .is-current-ep4ta .ensures ∙ current) (c5 .if5 .left),
+      ← c .before .page .ensures,
+    )
+    (c .is-covering .ensures)
+
+pub is-in-combined-violation-scope-spec : {M : Type 1} → statement M
+is-in-combined-violation-scope-spec =
+    tie.close
+    (tie.spec
+    returns
+    kind-requires
+    returns-2
+    ept-requires
+    vpid-requires
+    vpid-requires-2
+    returns-3
+    pcid-requires
+    returns-4
+    ep4ta-requires
+    is-current-ep4ta-requires
+    returns-5
+    page-requires
+    is-covering-requires
+    returns-6)

@@ -1,0 +1,85 @@
+-- Each early return makes one conjunct of the definition false; past the last, the PCID or the global
+-- mark decides.
+use mathlib.Core.Bool.{and-false}
+use mathlib.Core.Path.{ap, ap₂, _∙_}
+use borrow.Author.Needs.{needs}
+use lib.Dec.{eqb}
+use Rattle.model.specs.Mappings.{covers}
+use Rattle.scopes.proofs.Laws.{denied, passed}
+use Rattle.scopes.proofs.is_in_invlpg_scope.Statement.{statement}
+use Rattle.scopes.proofs.is_in_invlpg_scope.Tie as tie
+
+is-canonical-requires : tie.Need-is-canonical-requires
+is-canonical-requires c κs = search needs
+
+returns : tie.Need-returns
+unfolding Rattle.model.specs.Scopes.invlpg-scope
+returns c = rw (denied (c .before .is-canonical .ensures) (c .if1 .taken))
+
+is-tagged-requires : tie.Need-is-tagged-requires
+is-tagged-requires c κs = search needs
+
+returns-2 : tie.Need-returns-2
+unfolding Rattle.model.specs.Scopes.invlpg-scope
+returns-2 c = rw (denied (c .before .is-tagged .ensures) (c .if2 .taken), and-false)
+
+vpid-requires : tie.Need-vpid-requires
+vpid-requires c κs = search needs
+
+vpid-requires-2 : tie.Need-vpid-requires-2
+vpid-requires-2 c κs = search needs
+
+returns-3 : tie.Need-returns-3
+unfolding Rattle.model.specs.Scopes.invlpg-scope
+returns-3 c = rw (denied (ap₂ eqb (c .before .before .vpid .ensures) (c .before .vpid2 .ensures)) (c .if3 .taken), and-false)
+
+page-requires : tie.Need-page-requires
+page-requires c κs = search needs
+
+is-covering-requires : tie.Need-is-covering-requires
+is-covering-requires c κs = search needs
+
+returns-4 : tie.Need-returns-4
+unfolding Rattle.model.specs.Scopes.invlpg-scope
+returns-4 c =
+    rw (denied (c .before .is-covering .ensures ∙ ap (covers _ _) (c .before .before .page .ensures)) (c .if4 .taken), and-false)
+
+pcid-requires : tie.Need-pcid-requires
+pcid-requires c κs = search needs
+
+is-global-translation-requires : tie.Need-is-global-translation-requires
+is-global-translation-requires c κs = search needs
+
+returns-5 : tie.Need-returns-5
+unfolding Rattle.model.specs.Scopes.invlpg-scope
+returns-5 c =
+    let c4 = c .before .before in
+    let c3 = c4 .before .before .before in
+    let c2 = c3 .before .before .before in
+    let c1 = c2 .before .before in
+    rw (
+      passed (c1 .before .is-canonical .ensures) (c1 .if1 .left),
+      passed (c2 .before .is-tagged .ensures) (c2 .if2 .left),
+      passed (ap₂ eqb (c3 .before .before .vpid .ensures) (c3 .before .vpid2 .ensures)) (c3 .if3 .left),
+      passed (c4 .before .is-covering .ensures ∙ ap (covers _ _) (c4 .before .before .page .ensures)) (c4 .if4 .left),
+      c .before .pcid .ensures,
+      c .is-global-translation .ensures,
+    )
+
+pub is-in-invlpg-scope-spec : {M : Type 1} → statement M
+is-in-invlpg-scope-spec =
+    tie.close
+    (tie.spec
+    is-canonical-requires
+    returns
+    is-tagged-requires
+    returns-2
+    vpid-requires
+    vpid-requires-2
+    returns-3
+    page-requires
+    is-covering-requires
+    returns-4
+    pcid-requires
+    is-global-translation-requires
+    returns-5)

@@ -1,0 +1,109 @@
+// The step: one event on a context and a table, written into a second buffer.
+use model::Context;
+use model::Event;
+use model::EventReading;
+use model::Step;
+ghost use mathlib.Core.Path.{_≡_};
+ghost use mathlib.Core.Bool.{true};
+ghost use mathlib.Core.List.{_++_};
+ghost use Prim.Native.Nat.{_+_, _≤_};
+ghost use lib.ListN.{length, take, drop};
+ghost use Rattle.model.specs.Layouts.{kind-of, mapping-kind};
+ghost use Rattle.model.specs.Tables.{whole};
+ghost use Rattle.model.specs.Events.{event};
+ghost use Rattle.model.specs.Scopes.{next-context};
+ghost use Rattle.model.specs.Answers.{created, no-room};
+ghost use Rattle.model.specs.Steps.{new-table, dropped-count, stepped, overwritten, written};
+
+// The bytes are a creation's: their kind is a mapping's.
+fn is_creation(e: &[u8]) -> bool
+    ensures { λ r. ⌜ r ≡ mapping-kind (kind-of (now (e .entry))) ⌝ }
+{
+    if e.len() == 0 {
+        return false;
+    }
+    let kind = e[0];
+    (1 <= kind) & (kind <= 6)
+}
+
+// How many bytes an event adds to the table: a creation's own.
+fn created_length(e: &[u8]) -> usize
+    ensures { λ r. ⌜ r ≡ length (created (now (e .entry))) ⌝ }
+{
+    if is_creation(e) { e.len() } else { 0 }
+}
+
+// 12: the new buffer, or the table limit, is less than the old table with the creation.
+fn is_without_room(room: usize, table: &[u8], e: &[u8]) -> bool
+    ensures { λ r. ⌜ r ≡ no-room room (now (table .entry)) (now (e .entry)) ⌝ }
+{
+    let needed = table.len() + created_length(e);
+    (room < needed) | (45056 < needed)
+}
+
+// What a refused step reports.
+fn refused(answer: u64, context: Context) -> Step
+    ensures { λ r. ⌜ r ≡ record { answer = answer; context = context; length = 0; dropped = 0 } ⌝ }
+{
+    Step {
+        answer,
+        context,
+        length: 0,
+        dropped: 0,
+    }
+}
+
+// Writes a creation behind the first `at` bytes of the new buffer, and answers where the table then
+// ends; another event adds nothing.
+fn add_creation(raw: &[u8], new: &mut [u8], at: usize) -> usize
+    requires { ⌜ at + length (created (now raw)) ≤ length (now new) ⌝ }
+    ensures { λ r. ⌜ r ≡ at + length (created (now (raw .entry))) ⌝ }
+    ensures { λ _. ⌜ now (new .exit) ≡ take at (now (new .entry)) ++ (created (now (raw .entry)) ++ drop (length (created (now (raw .entry)))) (drop at (now (new .entry)))) ⌝ }
+{
+    if !is_creation(raw) {
+        return at;
+    }
+    filters::copy_run(raw, 0, raw.len(), new, at)
+}
+
+// Writes the new table of an accepted event: the kept records, and a creation at the end.
+fn perform(c: Context, e: Event, table: &[u8], raw: &[u8], new: &mut [u8]) -> Step
+    requires { ⌜ e ≡ event (now raw) ⌝ }
+    requires { ⌜ whole (now table) ≡ true ⌝ }
+    requires { ⌜ length (now table) + length (created (now raw)) ≤ length (now new) ⌝ }
+    ensures { λ r. ⌜ r ≡ record { answer = 0; context = next-context c (event (now (raw .entry))); length = length (new-table c (now (table .entry)) (now (raw .entry))); dropped = dropped-count c (now (table .entry)) (now (raw .entry)) } ⌝ }
+    ensures { λ _. ⌜ now (new .exit) ≡ overwritten (new-table c (now (table .entry)) (now (raw .entry))) (now (new .entry)) ⌝ }
+{
+    let kept = filters::keep(c, e, table, new);
+    let length = add_creation(raw, new, kept.length);
+    Step {
+        answer: 0,
+        context: scopes::context_after(c, e),
+        length,
+        dropped: kept.dropped,
+    }
+}
+
+// One event on a context and a table. An accepted event's new table is written to the front of the new
+// buffer, whose other bytes stay; a refused one writes nothing. The answer is a number of document 01,
+// whatever the context, the bytes and the lengths are.
+pub fn step(c: Context, table: &[u8], event: &[u8], new: &mut [u8]) -> Step
+    ensures { λ r. ⌜ r ≡ stepped c (now (table .entry)) (now (event .entry)) (length (now (new .entry))) ⌝ }
+    ensures { λ _. ⌜ now (new .exit) ≡ written c (now (table .entry)) (now (event .entry)) (now (new .entry)) ⌝ }
+{
+    let first = tables::answer_to_table(c, table);
+    if first != 0 {
+        return refused(first, c);
+    }
+    let EventReading::Read(e) = events::read_event(event) else {
+        return refused(4, c);
+    };
+    let second = answers::answer_to_event(c, e);
+    if second != 0 {
+        return refused(second, c);
+    }
+    if is_without_room(new.len(), table, event) {
+        return refused(12, c);
+    }
+    perform(c, e, table, event, new)
+}
