@@ -1,12 +1,14 @@
 -- The walk over a table, record by record: where it stands, and what each turn does.
-use Prim.Native.Nat.{ℕ, zero, suc, _+_, _-_, _≤_}
+use Prim.Native.Nat.{ℕ, zero, suc, _+_, _-_, _≤_, _<_}
 use mathlib.Core.Path.{_≡_, refl, sym, ap, _∙_}
+use mathlib.Core.Bool.{true}
 use mathlib.Core.List.{List}
 use native.Mathlib.Omega.{arith}
+use borrow.Author.Tests.{eqb-true}
 use lib.ListN.{length, take, drop, length-drop}
 use lib.Seq.{length-take-le}
 use Rattle.model.specs.Mappings.{record-length}
-use Rattle.model.specs.Tables.{joined, records}
+use Rattle.model.specs.Tables.{joined, records, whole}
 use Rattle.laws.specs.Mappings.{record-length-le}
 use Rattle.laws.specs.Tables.{rest-of-drop, records-none, records-drop-cons, records-drop-end, length-joined-cons}
 
@@ -41,3 +43,10 @@ module _ {t : List ℕ} {at n : ℕ} (w : Walked t at) (read : n ≡ record-leng
           let first = length-joined-cons (take (suc n) (drop at t)) (records (drop (at + suc n) t)) in
           let counted = rw (records-drop-cons t at n e) at (w .counted) in
           record { within = omega (arith, length-drop at t); counted = omega arith }
+
+-- at each position of the walk before the end of a whole table a record starts
+pub walk-starts : {t : List ℕ} {at : ℕ} → Walked t at → whole t ≡ true → at < length t → record-length (drop at t) ≡ 0 → ⊥
+unfolding whole
+walk-starts {t} {at} w valid before none =
+    let stop = walk-stop w (sym none ∙ ap record-length (sym (rest-of-drop at t))) refl in
+    omega (arith, stop, eqb-true (length (joined (records t))) (length t) valid)

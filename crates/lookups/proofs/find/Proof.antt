@@ -1,0 +1,33 @@
+-- Answer 0 leaves a whole table, in which the search finds the part; any other answer gives 0 and 0.
+use mathlib.Core.Path.{_≡_, refl, sym, ap, _∙_}
+use native.Mathlib.Omega.{arith}
+use borrow.Author.Needs.{needs}
+use borrow.Author.Tests.{eq-eqb, ne-eqb}
+use denote.Ref.{now}
+use Rattle.model.specs.Lookups.{lookup, lookup-start}
+use Rattle.lookups.proofs.Laws.{answered-whole, end-of-part}
+use Rattle.lookups.proofs.find.Statement.{statement}
+use Rattle.lookups.proofs.find.Tie as tie
+
+answer-to-lookup-requires : tie.Need-answer-to-lookup-requires
+answer-to-lookup-requires c κs = search needs
+
+returns : tie.Need-returns
+unfolding lookup lookup-start
+returns c =
+    let not-0 = ne-eqb _ _ (λ e. c .if1 .taken (c .before .answer-to-lookup .ensures ∙ e)) in
+    rw not-0 (omega arith, omega arith)
+
+search-requires : tie.Need-search-requires
+search-requires c κs = answered-whole _ _ (sym (c .before .answer-to-lookup .ensures) ∙ c .if1 .left)
+
+returns-2 : tie.Need-returns-2
+unfolding lookup lookup-start
+returns-2 c =
+    let is-0 = eq-eqb _ _ (sym (c .before .before .answer-to-lookup .ensures) ∙ c .before .if1 .left) in
+    let found = c .search .ensures in
+    let end = end-of-part (now (c .before .before .before .before .args .table)) _ (c .search .result .start) (c .search .result .end) (found .ordered) (found .within) (found .part) in
+    rw (is-0, ← (found .place)) (refl, end)
+
+pub find-spec : {M : Type 1} → statement M
+find-spec = tie.close (tie.spec answer-to-lookup-requires returns search-requires returns-2)

@@ -1,0 +1,29 @@
+-- Kinds 1 and 4 with EPT off, kinds 3 and 6 of the EP4TA with EPT on: by the two states.
+use borrow.Author.Needs.{needs}
+use Rattle.model.specs.Lookups.{translates-linear}
+use Rattle.lookups.proofs.is_translating.Statement.{statement}
+use Rattle.lookups.proofs.is_translating.Tie as tie
+
+kind-requires : tie.Need-kind-requires
+kind-requires c κs = search needs
+
+enum-told : tie.Need-enum-told
+enum-told c = search needs
+
+enum-known-ept : tie.Need-enum-known-ept
+enum-known-ept c = search needs
+
+ep4ta-requires : tie.Need-ep4ta-requires
+ep4ta-requires c κs = search needs
+
+returns : tie.Need-returns
+unfolding translates-linear
+returns c = rw (c .enum-told .given .1, c .before .before .kind .ensures)
+
+returns-2 : tie.Need-returns-2
+unfolding translates-linear
+returns-2 c = rw (c .before .before .ept .given .1, c .before .before .before .before .kind .ensures, c .ep4ta .ensures)
+
+pub is-translating-spec : {M : Type 1} → statement M
+is-translating-spec =
+    tie.close (tie.spec kind-requires enum-told enum-known-ept ep4ta-requires returns returns-2)

@@ -1,0 +1,91 @@
+-- Contexts and results as flat structs of numbers, for callers in other languages.
+use Prim.Native.Nat.{ℕ}
+use mathlib.Core.Bool.{Bool, cond, _&&_, _||_}
+use mathlib.Core.List.{List}
+use lib.Dec.{eqb, leb}
+use lib.ListN.{length}
+use Rattle.model.specs.declared.Context.{Context}
+use Rattle.model.specs.declared.Place.{Place}
+use Rattle.model.specs.declared.Place.the-variants.{Outside, Root, Guest}
+use Rattle.model.specs.declared.Ept.{Ept}
+use Rattle.model.specs.declared.Ept.the-variants.{Off, On}
+use Rattle.model.specs.declared.Step.{Step}
+use Rattle.model.specs.declared.Address.{Address}
+use Rattle.model.specs.Steps.{stepped, written}
+use Rattle.model.specs.Lookups.{lookup-answer, lookup, lookup-start}
+use Rattle.skuldrefn.specs.declared.FlatContext.{FlatContext}
+use Rattle.skuldrefn.specs.declared.FlatStep.{FlatStep}
+use Rattle.skuldrefn.specs.declared.FlatPart.{FlatPart}
+
+-- the place is 0, 1 or 2, and in a guest the EPT number 0 or 1
+unfoldable pub is-known : FlatContext → Bool
+is-known c = leb (c .place) 1 || (eqb (c .place) 2 && leb (c .ept) 1)
+
+-- the context that such numbers stand for
+unfoldable pub unflatten : FlatContext → Context
+unflatten c =
+    record {
+      capability = c .capability;
+      width = c .width;
+      pcid = c .pcid;
+      cpl = c .cpl;
+      place =
+          cond (eqb (c .place) 0) Outside
+          (cond (eqb (c .place) 1) Root
+          (Guest (record { vpid = c .vpid; ept = cond (eqb (c .ept) 1) (On (c .ep4ta)) Off })));
+    }
+
+-- a context as numbers; a field that the place lacks is 0
+abbrev pub with-place : Context → ℕ → ℕ → ℕ → ℕ → FlatContext
+with-place c place vpid ept ep4ta =
+    record {
+      capability = c .capability;
+      width = c .width;
+      pcid = c .pcid;
+      cpl = c .cpl;
+      place = place;
+      vpid = vpid;
+      ept = ept;
+      ep4ta = ep4ta;
+    }
+
+abbrev pub flatten-guest : Context → ℕ → Ept → FlatContext
+flatten-guest c vpid Off = with-place c 2 vpid 0 0
+flatten-guest c vpid (On ep4ta) = with-place c 2 vpid 1 ep4ta
+
+abbrev pub flatten-at : Context → Place → FlatContext
+flatten-at c Outside = with-place c 0 0 0 0
+flatten-at c Root = with-place c 1 0 0 0
+flatten-at c (Guest g) = flatten-guest c (g .vpid) (g .ept)
+
+unfoldable pub flatten : Context → FlatContext
+flatten c = flatten-at c (c .place)
+
+-- a refusal hands back the context as it came
+abbrev pub refused : ℕ → FlatContext → FlatStep
+refused answer c = record { answer = answer; context = c; length = 0; dropped = 0 }
+
+-- the step's result: answer 1 where a number stands for nothing
+abbrev pub flat-result : FlatContext → Step → FlatStep
+flat-result c s =
+    cond (eqb (s .answer) 0)
+    (record { answer = 0; context = flatten (s .context); length = s .length; dropped = s .dropped })
+    (refused (s .answer) c)
+
+unfoldable pub flat-step : FlatContext → List ℕ → List ℕ → ℕ → FlatStep
+flat-step c t e room = cond (is-known c) (flat-result c (stepped (unflatten c) t e room)) (refused 1 c)
+
+-- the new buffer after it
+unfoldable pub flat-written : FlatContext → List ℕ → List ℕ → List ℕ → List ℕ
+flat-written c t e buffer = cond (is-known c) (written (unflatten c) t e buffer) buffer
+
+-- a lookup: its answer, and where the part stands in the table
+unfoldable pub flat-lookup : FlatContext → Address → List ℕ → ℕ → FlatPart
+flat-lookup c a t k =
+    cond (is-known c)
+    (record {
+      answer = lookup-answer (unflatten c) t;
+      start = lookup-start (unflatten c) a t k;
+      length = length (lookup (unflatten c) a t k);
+    })
+    (record { answer = 1; start = 0; length = 0 })
