@@ -1,56 +1,16 @@
-// The cards of document 01 and its five mistakes, run on the code: each line is a card's name, the
-// answer, the dropped count, the length, and the new buffer, which held ee in every byte. What is
-// expected, the file stdout, was written from the document.
+// The cards of document 01 and its five mistakes, run on the code. They come from standard input, the
+// file stdin, and what is expected, the file stdout, was written from the document; tools/cards.py has
+// the format. Each line is a card's name, the answer, the dropped count, the length, and the new
+// buffer, which held ee in every byte; for a lookup the answer and the part.
+use libc::STDIN_FILENO;
 use libc::STDOUT_FILENO;
-use model::Address;
-use model::Context;
-use model::Ept;
-use model::GuestPlace;
-use model::Place;
-
-// The program's capability with every bit, and without bit 21.
-const CAPABILITY: u64 = 16497073209664;
-
-const WITHOUT_21: u64 = 16497071112512;
-
-fn context(width: u64, place: Place) -> Context {
-    Context {
-        capability: CAPABILITY,
-        width,
-        pcid: 0,
-        cpl: 0,
-        place,
-    }
-}
-
-fn root(width: u64) -> Context {
-    context(width, Place::Root)
-}
-
-fn root_without_bit_21() -> Context {
-    Context {
-        capability: WITHOUT_21,
-        width: 52,
-        pcid: 0,
-        cpl: 0,
-        place: Place::Root,
-    }
-}
-
-// A guest with PCID 1.
-fn guest(vpid: u64, ept: Ept) -> Context {
-    Context {
-        capability: CAPABILITY,
-        width: 52,
-        pcid: 1,
-        cpl: 0,
-        place: Place::Guest(GuestPlace { vpid, ept }),
-    }
-}
+use skuldrefn::FlatContext;
+ghost use Prim.Native.Nat.{_+_, _≤_};
+ghost use lib.ListN.{length};
 
 fn write_hex(bytes: &[u8]) {
     for i in 0..bytes.len() {
-        io::print_hex(STDOUT_FILENO, bytes[i] as u64, 2);
+        io::print_hex(STDOUT_FILENO, numbers::wide(bytes[i]), 2);
     }
 }
 
@@ -59,387 +19,103 @@ fn write_number(n: u64) {
     io::write_all(STDOUT_FILENO, b" ");
 }
 
+// The context of a card: eight numbers.
+fn context(s: &[u8]) -> FlatContext
+    requires { ⌜ 64 ≤ length (now s) ⌝ }
+{
+    FlatContext {
+        capability: numbers::number8(s, 0),
+        width: numbers::number8(s, 8),
+        pcid: numbers::number8(s, 16),
+        cpl: numbers::number8(s, 24),
+        place: numbers::number8(s, 32),
+        vpid: numbers::number8(s, 40),
+        ept: numbers::number8(s, 48),
+        ep4ta: numbers::number8(s, 56),
+    }
+}
+
 // One step into a buffer of 64 bytes.
-fn card(name: &[u8], c: Context, table: &[u8], event: &[u8]) {
+fn step(c: FlatContext, table: &[u8], event: &[u8]) {
     let mut new = [238u8; 64];
-    let s = steps::step(c, table, event, &mut new);
-    io::write_all(STDOUT_FILENO, name);
-    io::write_all(STDOUT_FILENO, b": ");
+    let s = skuldrefn::skuldrefn_step(c, table, event, &mut new);
     write_number(s.answer);
     write_number(s.dropped as u64);
     write_number(s.length as u64);
     write_hex(&new);
-    io::write_all(STDOUT_FILENO, b"\n");
 }
 
-// One lookup.
-fn shown(name: &[u8], c: Context, table: &[u8], a: Address, k: u64) {
-    io::write_all(STDOUT_FILENO, name);
+// The part of the table that a lookup shows.
+fn write_part(table: &[u8], answer: u64, start: usize, size: usize) {
+    write_number(answer);
+    if start <= table.len() {
+        if size <= table.len() - start {
+            let end = start + size;
+            write_hex(&table[start..end]);
+        }
+    }
+}
+
+// One lookup, of a linear address in mode 1 and a guest-physical one in any other; the question is the
+// address and k.
+fn look_up(c: FlatContext, mode: u8, table: &[u8], question: &[u8]) {
+    if question.len() < 16 {
+        return;
+    }
+    let address = numbers::number8(question, 0);
+    let k = numbers::number8(question, 8);
+    let found = if mode == 1 {
+        skuldrefn::skuldrefn_lookup_linear(c, table, address, k)
+    } else {
+        skuldrefn::skuldrefn_lookup_guest_physical(c, table, address, k)
+    };
+    write_part(table, found.answer, found.start, found.length);
+}
+
+// Runs the card at the front and answers how many bytes it takes, or 0 where no whole card is left.
+fn card(s: &[u8]) -> usize
+    ensures { λ r. ⌜ r ≤ length (now (s .entry)) ⌝ }
+{
+    if s.len() < 70 {
+        return 0;
+    }
+    let name_length = numbers::number1(s, 0);
+    let table_length = numbers::number2(s, 1);
+    let extra_length = numbers::number2(s, 68);
+    let name_end = 70 + name_length as usize;
+    let table_end = name_end + table_length as usize;
+    let end = table_end + extra_length as usize;
+    if s.len() < end {
+        return 0;
+    }
+    io::write_all(STDOUT_FILENO, &s[70..name_end]);
     io::write_all(STDOUT_FILENO, b": ");
-    write_number(lookups::answer_to_lookup(c, table));
-    write_hex(lookups::look_up(c, table, a, k));
+    let c = context(&s[4..]);
+    let table = &s[name_end..table_end];
+    let extra = &s[table_end..end];
+    let mode = s[3];
+    if mode == 0 {
+        step(c, table, extra);
+    } else {
+        look_up(c, mode, table, extra);
+    }
     io::write_all(STDOUT_FILENO, b"\n");
+    end
 }
 
-fn cards_1() {
-    card(
-        b"A, G; INVVPID 1, VPID 5",
-        root(52),
-        b"\x01\x05\x00\x01\x00\x00\x00\x45\x23\x01\x00\x00\xde\xbc\x0a\x00\x00\x02\x67\x45\x23\x01\x00\x00\x10\x00\x00\x00\x00\x20\x00\x00\x00\x00",
-        b"\x10\x01\x00\x00\x00\x00\x00\x00\x00\x05\x00\x00\x00\x00\x00\x00\x00\x00\x00\x00\x00\x00\x00\x00\x00",
-    );
-    card(
-        b"A; type 0, address 12345678h",
-        root(52),
-        b"\x01\x05\x00\x01\x00\x00\x00\x45\x23\x01\x00\x00\xde\xbc\x0a\x00\x00",
-        b"\x10\x00\x00\x00\x00\x00\x00\x00\x00\x05\x00\x00\x00\x00\x00\x00\x00\x78\x56\x34\x12\x00\x00\x00\x00",
-    );
-    card(
-        b"A; type 0, address 12346000h",
-        root(52),
-        b"\x01\x05\x00\x01\x00\x00\x00\x45\x23\x01\x00\x00\xde\xbc\x0a\x00\x00",
-        b"\x10\x00\x00\x00\x00\x00\x00\x00\x00\x05\x00\x00\x00\x00\x00\x00\x00\x00\x60\x34\x12\x00\x00\x00\x00",
-    );
-    card(
-        b"type 0, address 00007FFFFFFFF000h",
-        root(52),
-        b"\x01\x05\x00\x01\x00\x00\x00\x45\x23\x01\x00\x00\xde\xbc\x0a\x00\x00",
-        b"\x10\x00\x00\x00\x00\x00\x00\x00\x00\x05\x00\x00\x00\x00\x00\x00\x00\x00\xf0\xff\xff\xff\x7f\x00\x00",
-    );
-}
-
-fn cards_2() {
-    card(
-        b"type 0, address FFFF800000000000h",
-        root(52),
-        b"\x01\x05\x00\x01\x00\x00\x00\x45\x23\x01\x00\x00\xde\xbc\x0a\x00\x00",
-        b"\x10\x00\x00\x00\x00\x00\x00\x00\x00\x05\x00\x00\x00\x00\x00\x00\x00\x00\x00\x00\x00\x00\x80\xff\xff",
-    );
-    card(
-        b"type 0, address 0000800000000000h",
-        root(52),
-        b"\x01\x05\x00\x01\x00\x00\x00\x45\x23\x01\x00\x00\xde\xbc\x0a\x00\x00",
-        b"\x10\x00\x00\x00\x00\x00\x00\x00\x00\x05\x00\x00\x00\x00\x00\x00\x00\x00\x00\x00\x00\x00\x80\x00\x00",
-    );
-    card(
-        b"type 1, address 0000800000000000h",
-        root(52),
-        b"\x01\x05\x00\x01\x00\x00\x00\x45\x23\x01\x00\x00\xde\xbc\x0a\x00\x00",
-        b"\x10\x01\x00\x00\x00\x00\x00\x00\x00\x05\x00\x00\x00\x00\x00\x00\x00\x00\x00\x00\x00\x00\x80\x00\x00",
-    );
-    card(
-        b"type 0, VPID 0",
-        root(52),
-        b"\x01\x05\x00\x01\x00\x00\x00\x45\x23\x01\x00\x00\xde\xbc\x0a\x00\x00",
-        b"\x10\x00\x00\x00\x00\x00\x00\x00\x00\x00\x00\x00\x00\x00\x00\x00\x00\x00\x00\x00\x00\x00\x00\x00\x00",
-    );
-}
-
-fn cards_3() {
-    card(
-        b"type 2, VPID 0",
-        root(52),
-        b"\x01\x05\x00\x01\x00\x00\x00\x45\x23\x01\x00\x00\xde\xbc\x0a\x00\x00",
-        b"\x10\x02\x00\x00\x00\x00\x00\x00\x00\x00\x00\x00\x00\x00\x00\x00\x00\x00\x00\x00\x00\x00\x00\x00\x00",
-    );
-    card(
-        b"type 2, descriptor bit 16 set (mistake 5)",
-        root(52),
-        b"\x01\x05\x00\x01\x00\x00\x00\x45\x23\x01\x00\x00\xde\xbc\x0a\x00\x00",
-        b"\x10\x02\x00\x00\x00\x00\x00\x00\x00\x05\x00\x01\x00\x00\x00\x00\x00\x00\x00\x00\x00\x00\x00\x00\x00",
-    );
-    card(
-        b"type 4",
-        root(52),
-        b"\x01\x05\x00\x01\x00\x00\x00\x45\x23\x01\x00\x00\xde\xbc\x0a\x00\x00",
-        b"\x10\x04\x00\x00\x00\x00\x00\x00\x00\x05\x00\x00\x00\x00\x00\x00\x00\x00\x00\x00\x00\x00\x00\x00\x00",
-    );
-    card(
-        b"span 1, page 12200h covers page 12345h",
-        root(52),
-        b"\x01\x05\x00\x01\x00\x00\x01\x00\x22\x01\x00\x00\xde\xbc\x0a\x00\x00",
-        b"\x10\x00\x00\x00\x00\x00\x00\x00\x00\x05\x00\x00\x00\x00\x00\x00\x00\x00\x50\x34\x12\x00\x00\x00\x00",
-    );
-}
-
-fn cards_4() {
-    card(
-        b"span 1, page 12200h does not cover page 12400h",
-        root(52),
-        b"\x01\x05\x00\x01\x00\x00\x01\x00\x22\x01\x00\x00\xde\xbc\x0a\x00\x00",
-        b"\x10\x00\x00\x00\x00\x00\x00\x00\x00\x05\x00\x00\x00\x00\x00\x00\x00\x00\x00\x40\x12\x00\x00\x00\x00",
-    );
-    card(
-        b"span 1, page 12201h",
-        root(52),
-        b"\x01\x05\x00\x01\x00\x00\x01\x01\x22\x01\x00\x00\xde\xbc\x0a\x00\x00",
-        b"\x10\x00\x00\x00\x00\x00\x00\x00\x00\x05\x00\x00\x00\x00\x00\x00\x00\x00\x50\x34\x12\x00\x00\x00\x00",
-    );
-    card(
-        b"A with global 1 under type 3",
-        root(52),
-        b"\x01\x05\x00\x01\x00\x01\x00\x45\x23\x01\x00\x00\xde\xbc\x0a\x00\x00",
-        b"\x10\x03\x00\x00\x00\x00\x00\x00\x00\x05\x00\x00\x00\x00\x00\x00\x00\x00\x00\x00\x00\x00\x00\x00\x00",
-    );
-    card(
-        b"G; INVEPT 1, EPTP 123456701Eh, N = 37",
-        root(37),
-        b"\x02\x67\x45\x23\x01\x00\x00\x10\x00\x00\x00\x00\x20\x00\x00\x00\x00",
-        b"\x11\x01\x00\x00\x00\x00\x00\x00\x00\x1e\x70\x56\x34\x12\x00\x00\x00\x00\x00\x00\x00\x00\x00\x00\x00",
-    );
-}
-
-fn cards_5() {
-    card(
-        b"G; INVEPT 1, EPTP 123456701Eh, N = 36",
-        root(36),
-        b"\x02\x67\x45\x23\x01\x00\x00\x10\x00\x00\x00\x00\x20\x00\x00\x00\x00",
-        b"\x11\x01\x00\x00\x00\x00\x00\x00\x00\x1e\x70\x56\x34\x12\x00\x00\x00\x00\x00\x00\x00\x00\x00\x00\x00",
-    );
-    card(
-        b"G; INVEPT 1, EPTP 123456705Eh (mistake 1)",
-        root(52),
-        b"\x02\x67\x45\x23\x01\x00\x00\x10\x00\x00\x00\x00\x20\x00\x00\x00\x00",
-        b"\x11\x01\x00\x00\x00\x00\x00\x00\x00\x5e\x70\x56\x34\x12\x00\x00\x00\x00\x00\x00\x00\x00\x00\x00\x00",
-    );
-    card(
-        b"the same without capability bit 21",
-        root_without_bit_21(),
-        b"\x02\x67\x45\x23\x01\x00\x00\x10\x00\x00\x00\x00\x20\x00\x00\x00\x00",
-        b"\x11\x01\x00\x00\x00\x00\x00\x00\x00\x5e\x70\x56\x34\x12\x00\x00\x00\x00\x00\x00\x00\x00\x00\x00\x00",
-    );
-    card(
-        b"PCID 4,095 in a record",
-        root(52),
-        b"\x01\x05\x00\xff\x0f\x00\x00\x00\x00\x00\x00\x00\xde\xbc\x0a\x00\x00",
-        b"\x10\x01\x00\x00\x00\x00\x00\x00\x00\x05\x00\x00\x00\x00\x00\x00\x00\x00\x00\x00\x00\x00\x00\x00\x00",
-    );
-}
-
-fn cards_6() {
-    card(
-        b"PCID 4,096 in a record",
-        root(52),
-        b"\x01\x05\x00\x00\x10\x00\x00\x00\x00\x00\x00\x00\xde\xbc\x0a\x00\x00",
-        b"\x10\x01\x00\x00\x00\x00\x00\x00\x00\x05\x00\x00\x00\x00\x00\x00\x00\x00\x00\x00\x00\x00\x00\x00\x00",
-    );
-    card(
-        b"PCID 4,095 in an event",
-        guest(5, Ept::Off),
-        b"\x01\x05\x00\x01\x00\x00\x00\x45\x23\x01\x00\x00\xde\xbc\x0a\x00\x00",
-        b"\x15\xff\x0f",
-    );
-    card(
-        b"PCID 4,096 in an event",
-        guest(5, Ept::Off),
-        b"\x01\x05\x00\x01\x00\x00\x00\x45\x23\x01\x00\x00\xde\xbc\x0a\x00\x00",
-        b"\x15\x00\x10",
-    );
-    card(b"empty table, reset", root(52), b"", b"\x19");
-}
-
-fn cards_7() {
-    card(
-        b"mistake 1: the EP4TA of an entry",
-        root(52),
-        b"",
-        b"\x14\x01\x05\x00\x01\x5e\x70\x56\x34\x12\x00\x00\x00\x01\x00\x00",
-    );
-    card(
-        b"mistake 2: INVVPID 2 leaves G",
-        root(52),
-        b"\x02\x67\x45\x23\x01\x00\x00\x10\x00\x00\x00\x00\x20\x00\x00\x00\x00",
-        b"\x10\x02\x00\x00\x00\x00\x00\x00\x00\x00\x00\x00\x00\x00\x00\x00\x00\x00\x00\x00\x00\x00\x00\x00\x00",
-    );
-    card(
-        b"mistake 2: INVEPT 2 leaves A",
-        root(52),
-        b"\x01\x05\x00\x01\x00\x00\x00\x45\x23\x01\x00\x00\xde\xbc\x0a\x00\x00",
-        b"\x11\x02\x00\x00\x00\x00\x00\x00\x00\x00\x00\x00\x00\x00\x00\x00\x00\x00\x00\x00\x00\x00\x00\x00\x00",
-    );
-    card(
-        b"mistake 3: EPT violation, global of another PCID",
-        guest(5, Ept::On(0x1234567)),
-        b"\x03\x05\x00\x02\x00\x01\x00\x45\x23\x01\x00\x00\x07\x00\x00\x00\x00\x67\x45\x23\x01\x00",
-        b"\x13\x00\x00\x00\x00\x00\x00\x00\x00\x01\x00\x50\x34\x12\x00\x00\x00\x00",
-    );
-}
-
-fn cards_8() {
-    card(
-        b"mistake 3: EPT violation, global of the current PCID",
-        guest(5, Ept::On(0x1234567)),
-        b"\x03\x05\x00\x01\x00\x01\x00\x45\x23\x01\x00\x00\x07\x00\x00\x00\x00\x67\x45\x23\x01\x00",
-        b"\x13\x00\x00\x00\x00\x00\x00\x00\x00\x01\x00\x50\x34\x12\x00\x00\x00\x00",
-    );
-    card(
-        b"mistake 4: type 3 takes structure caches",
-        root(52),
-        b"\x04\x05\x00\x01\x00\x01\x00\x22\x01\x00\x00\x09\x00\x00\x00\x00\x06\x05\x00\x01\x00\x01\x00\x00\x00\x00\x00\x09\x00\x00\x00\x00\x67\x45\x23\x01\x00",
-        b"\x10\x03\x00\x00\x00\x00\x00\x00\x00\x05\x00\x00\x00\x00\x00\x00\x00\x00\x00\x00\x00\x00\x00\x00\x00",
-    );
-    card(
-        b"mistake 4: INVLPG, global of another PCID",
-        guest(5, Ept::On(0x1234567)),
-        b"\x03\x05\x00\x02\x00\x01\x00\x45\x23\x01\x00\x00\x07\x00\x00\x00\x00\x67\x45\x23\x01\x00",
-        b"\x12\x00\x50\x34\x12\x00\x00\x00\x00",
-    );
-    card(
-        b"INVLPG at a non-canonical address",
-        guest(5, Ept::Off),
-        b"\x01\x05\x00\x01\x00\x00\x00\x45\x23\x01\x00\x00\xde\xbc\x0a\x00\x00",
-        b"\x12\x00\x00\x00\x00\x00\x80\x00\x00",
-    );
-}
-
-fn cards_9() {
-    card(
-        b"entry without VPIDs takes VPID 0",
-        root(52),
-        b"\x01\x00\x00\x09\x00\x01\x00\x00\x00\x00\x00\x00\xde\xbc\x0a\x00\x00\x01\x05\x00\x01\x00\x00\x00\x45\x23\x01\x00\x00\xde\xbc\x0a\x00\x00",
-        b"\x14\x00\x09\x00\x00\x00\x00\x00\x00\x00\x00\x00\x00\x01\x00\x00",
-    );
-    card(
-        b"entry with VPIDs takes nothing",
-        root(52),
-        b"\x01\x00\x00\x09\x00\x01\x00\x00\x00\x00\x00\x00\xde\xbc\x0a\x00\x00",
-        b"\x14\x01\x05\x00\x00\x00\x00\x00\x00\x00\x00\x00\x00\x01\x00\x00",
-    );
-    card(
-        b"exit of a guest without VPIDs takes VPID 0",
-        guest(0, Ept::On(0x1234567)),
-        b"\x06\x00\x00\x01\x00\x01\x00\x00\x00\x00\x00\x09\x00\x00\x00\x00\x67\x45\x23\x01\x00\x01\x05\x00\x01\x00\x00\x00\x45\x23\x01\x00\x00\xde\xbc\x0a\x00\x00",
-        b"\x15\x00\x00",
-    );
-    card(
-        b"creation of A in its guest",
-        guest(5, Ept::Off),
-        b"\x02\x67\x45\x23\x01\x00\x00\x10\x00\x00\x00\x00\x20\x00\x00\x00\x00",
-        b"\x01\x05\x00\x01\x00\x00\x00\x45\x23\x01\x00\x00\xde\xbc\x0a\x00\x00",
-    );
-}
-
-fn cards_10() {
-    card(
-        b"creation of A in root",
-        root(52),
-        b"",
-        b"\x01\x05\x00\x01\x00\x00\x00\x45\x23\x01\x00\x00\xde\xbc\x0a\x00\x00",
-    );
-    card(
-        b"no room for the old table",
-        root(52),
-        b"\x01\x05\x00\x01\x00\x00\x00\x45\x23\x01\x00\x00\xde\xbc\x0a\x00\x00\x01\x05\x00\x01\x00\x00\x00\x45\x23\x01\x00\x00\xde\xbc\x0a\x00\x00\x01\x05\x00\x01\x00\x00\x00\x45\x23\x01\x00\x00\xde\xbc\x0a\x00\x00\x01\x05\x00\x01\x00\x00\x00\x45\x23\x01\x00\x00\xde\xbc\x0a\x00\x00",
-        b"\x19",
-    );
-    card(
-        b"no room for a creation",
-        guest(5, Ept::Off),
-        b"\x01\x05\x00\x01\x00\x00\x00\x45\x23\x01\x00\x00\xde\xbc\x0a\x00\x00\x01\x05\x00\x01\x00\x00\x00\x45\x23\x01\x00\x00\xde\xbc\x0a\x00\x00\x01\x05\x00\x01\x00\x00\x00\x45\x23\x01\x00\x00\xde\xbc\x0a\x00\x00",
-        b"\x01\x05\x00\x01\x00\x00\x00\x45\x23\x01\x00\x00\xde\xbc\x0a\x00\x00",
-    );
-    card(b"N = 53", root(53), b"\x63", b"");
-}
-
-fn cards_11() {
-    card(
-        b"a cut record",
-        root(52),
-        b"\x01\x05\x00\x01\x00\x00\x00\x45\x23\x01\x00\x00\xde\xbc\x0a\x00",
-        b"\x19",
-    );
-    card(
-        b"an empty event",
-        root(52),
-        b"\x01\x05\x00\x01\x00\x00\x00\x45\x23\x01\x00\x00\xde\xbc\x0a\x00\x00",
-        b"",
-    );
-    card(
-        b"VMXOFF outside VMX",
-        context(52, Place::Outside),
-        b"\x01\x05\x00\x01\x00\x00\x00\x45\x23\x01\x00\x00\xde\xbc\x0a\x00\x00",
-        b"\x17",
-    );
-    card(
-        b"INVVPID in a guest",
-        guest(5, Ept::Off),
-        b"\x01\x05\x00\x01\x00\x00\x00\x45\x23\x01\x00\x00\xde\xbc\x0a\x00\x00",
-        b"\x10\x09\x00\x00\x00\x00\x00\x00\x00\x00\x00\x00\x00\x00\x00\x00\x00\x00\x00\x00\x00\x00\x00\x00\x00",
-    );
-}
-
-fn cards_12() {
-    card(
-        b"VMXON in root",
-        root(52),
-        b"\x01\x05\x00\x01\x00\x00\x00\x45\x23\x01\x00\x00\xde\xbc\x0a\x00\x00",
-        b"\x16",
-    );
-    card(
-        b"entry with VPID 0 enabled",
-        root(52),
-        b"\x01\x05\x00\x01\x00\x00\x00\x45\x23\x01\x00\x00\xde\xbc\x0a\x00\x00",
-        b"\x14\x01\x00\x00\x00\x00\x00\x00\x00\x00\x00\x00\x00\x01\x00\x00",
-    );
-    shown(
-        b"A at 12345678h",
-        guest(5, Ept::Off),
-        b"\x01\x05\x00\x01\x00\x00\x00\x45\x23\x01\x00\x00\xde\xbc\x0a\x00\x00\x02\x67\x45\x23\x01\x00\x00\x10\x00\x00\x00\x00\x20\x00\x00\x00\x00",
-        Address::Linear(0x12345678),
-        0,
-    );
-    shown(
-        b"nothing more at 12345678h",
-        guest(5, Ept::Off),
-        b"\x01\x05\x00\x01\x00\x00\x00\x45\x23\x01\x00\x00\xde\xbc\x0a\x00\x00\x02\x67\x45\x23\x01\x00\x00\x10\x00\x00\x00\x00\x20\x00\x00\x00\x00",
-        Address::Linear(0x12345678),
-        1,
-    );
-}
-
-fn cards_13() {
-    shown(
-        b"a structure cache counts too",
-        guest(5, Ept::Off),
-        b"\x01\x05\x00\x01\x00\x00\x00\x45\x23\x01\x00\x00\xde\xbc\x0a\x00\x00\x04\x05\x00\x01\x00\x01\x00\x22\x01\x00\x00\x09\x00\x00\x00\x00",
-        Address::Linear(0x12345678),
-        1,
-    );
-    shown(
-        b"G at guest-physical 10000h",
-        guest(5, Ept::On(0x1234567)),
-        b"\x01\x05\x00\x01\x00\x00\x00\x45\x23\x01\x00\x00\xde\xbc\x0a\x00\x00\x02\x67\x45\x23\x01\x00\x00\x10\x00\x00\x00\x00\x20\x00\x00\x00\x00",
-        Address::GuestPhysical(0x10000),
-        0,
-    );
-    shown(
-        b"G with EPT off",
-        guest(5, Ept::Off),
-        b"\x01\x05\x00\x01\x00\x00\x00\x45\x23\x01\x00\x00\xde\xbc\x0a\x00\x00\x02\x67\x45\x23\x01\x00\x00\x10\x00\x00\x00\x00\x20\x00\x00\x00\x00",
-        Address::GuestPhysical(0x10000),
-        0,
-    );
-    shown(
-        b"an invalid table",
-        guest(5, Ept::Off),
-        b"\x01\x05\x00\x01\x00\x00\x00\x45\x23\x01\x00\x00\xde\xbc\x0a\x00",
-        Address::Linear(0x12345678),
-        0,
-    );
+fn run(s: &[u8]) {
+    let mut at = 0;
+    while at < s.len() {
+        let used = card(&s[at..]);
+        if used == 0 {
+            return;
+        }
+        at += used;
+    }
 }
 
 fn main() {
-    cards_1();
-    cards_2();
-    cards_3();
-    cards_4();
-    cards_5();
-    cards_6();
-    cards_7();
-    cards_8();
-    cards_9();
-    cards_10();
-    cards_11();
-    cards_12();
-    cards_13();
+    let mut input = [0u8; 65536];
+    let n = io::read_full(STDIN_FILENO, &mut input);
+    run(&input[..n]);
 }

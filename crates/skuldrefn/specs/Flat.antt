@@ -1,7 +1,8 @@
 -- Contexts and results as flat structs of numbers, for callers in other languages.
-use Prim.Native.Nat.{ℕ}
+use Prim.Native.Nat.{ℕ, _≤_}
 use mathlib.Core.Bool.{Bool, cond, _&&_, _||_}
 use mathlib.Core.List.{List}
+use mathlib.Core.Path.{_≡_}
 use lib.Dec.{eqb, leb}
 use lib.ListN.{length}
 use Rattle.model.specs.declared.Context.{Context}
@@ -16,6 +17,10 @@ use Rattle.model.specs.Lookups.{lookup-answer, lookup, lookup-start}
 use Rattle.skuldrefn.specs.declared.FlatContext.{FlatContext}
 use Rattle.skuldrefn.specs.declared.FlatStep.{FlatStep}
 use Rattle.skuldrefn.specs.declared.FlatPart.{FlatPart}
+use Rattle.skuldrefn.specs.declared.FlatReplayed.{FlatReplayed}
+use Rattle.model.specs.Tables.{limit}
+use Rattle.replays.specs.declared.Replayed.{Replayed}
+use Rattle.replays.specs.Replays.{Replays, ByTheBook}
 
 -- the place is 0, 1 or 2, and in a guest the EPT number 0 or 1
 unfoldable pub is-known : FlatContext → Bool
@@ -89,3 +94,19 @@ flat-lookup c a t k =
       length = length (lookup (unflatten c) a t k);
     })
     (record { answer = 1; start = 0; length = 0 })
+
+-- the context of a capability and N after a reset
+abbrev pub fresh : ℕ → ℕ → Context
+fresh capability width = record { capability = capability; width = width; pcid = 0; cpl = 0; place = Outside }
+
+-- what a replay leaves, as numbers
+unfoldable pub flat-replayed : Replayed → FlatReplayed
+flat-replayed r =
+    record { context = flatten (r .context); length = r .length; first = cond (r .first) 1 0; count = r .count }
+
+-- a replay: the run's, for any buffers, and the book's for buffers of at least 45,056 bytes
+pub record FlatReplays (c : Context) (log a b out : List ℕ) (r : FlatReplayed) (a′ b′ out′ : List ℕ) : Type 0 where
+  pub replayed : Replayed
+  pub told : r ≡ flat-replayed replayed
+  pub run : Replays c log a b out replayed a′ b′ out′
+  pub book : limit ≤ length a → limit ≤ length b → ByTheBook c log out replayed a′ b′ out′

@@ -7,7 +7,8 @@ use model::GuestPlace;
 use model::Place;
 ghost use mathlib.Core.Path.{_≡_};
 ghost use lib.ListN.{length};
-ghost use Rattle.skuldrefn.specs.Flat.{is-known, unflatten, flatten, flat-step, flat-written, flat-lookup};
+ghost use Rattle.skuldrefn.specs.Flat.{is-known, unflatten, flatten, flat-step, flat-written, flat-lookup, fresh, FlatReplays};
+ghost use mathlib.Core.Bool.{cond};
 
 // A context as numbers. place: 0 outside, 1 root, 2 guest; vpid, ept and ep4ta are looked at in a guest
 // only, and ep4ta with ept 1 only. ept: 0 off, 1 on.
@@ -200,4 +201,52 @@ pub extern "C" fn skuldrefn_lookup_guest_physical(
     ensures { λ r. ⌜ r ≡ flat-lookup context (Address.GuestPhysical address) (now (table .entry)) k ⌝ }
 {
     look_up(context, table, Address::GuestPhysical(address), k)
+}
+
+// What a replay leaves: the context, the length of the table in force, whether the first of the two
+// buffers holds it (1) or the second (0), and how many rows were written.
+#[repr(C)]
+pub struct FlatReplayed {
+    pub context: FlatContext,
+    pub length: usize,
+    pub first: u64,
+    pub count: usize,
+}
+
+// A truth as a number.
+fn number_of(b: bool) -> u64
+    ensures { λ r. ⌜ r ≡ cond b 1 0 ⌝ }
+{
+    if b { 1 } else { 0 }
+}
+
+// Replays the events of a log from a reset with a capability and width, through two buffers, and
+// writes a row of 24 bytes for each event, as many as there is room for.
+#[no_mangle]
+pub extern "C" fn skuldrefn_replay(
+    capability: u64,
+    width: u64,
+    log: &[u8],
+    first: &mut [u8],
+    second: &mut [u8],
+    rows: &mut [u8],
+) -> FlatReplayed
+    ensures { λ r. ⌜ FlatReplays (fresh capability width) (now (log .entry)) (now (first .entry)) (now (second .entry)) (now (rows .entry)) r (now (first .exit)) (now (second .exit)) (now (rows .exit)) ⌝ }
+{
+    let fresh = Context {
+        capability,
+        width,
+        pcid: 0,
+        cpl: 0,
+        place: Place::Outside,
+    };
+    let r = replays::replay(fresh, log, first, second, rows);
+    let context = r.context;
+    let flat = flat_context(context);
+    FlatReplayed {
+        context: flat,
+        length: r.length,
+        first: number_of(r.first),
+        count: r.count,
+    }
 }

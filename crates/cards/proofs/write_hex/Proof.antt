@@ -1,7 +1,6 @@
 -- The loop stays within the slice.
 use Prim.Native.Nat.{_≤_, _-_}
 use mathlib.Core.Path.{_≡_}
-use native.Mathlib.Omega.{arith}
 use borrow.Author.Needs.{needs}
 use lib.ListN.{length}
 use Rattle.cards.proofs.write_hex.Statement.{statement}
@@ -16,11 +15,11 @@ abbrev μ-loop : tie.MeasureT-loop
 loop-holds : tie.Need-loop-holds Inv-loop μ-loop
 loop-holds c = search needs
 
-shared-slice-read-print-hex : tie.Need-shared-slice-read-print-hex Inv-loop μ-loop
-shared-slice-read-print-hex c = search needs
+shared-slice-read-wide : tie.Need-shared-slice-read-wide Inv-loop μ-loop
+shared-slice-read-wide c = search needs
 
-cast-print-hex : tie.Need-cast-print-hex Inv-loop μ-loop
-cast-print-hex c = omega (arith, c .shared-slice-known2 .given (c .before .before .loop .i))
+wide-requires : tie.Need-wide-requires Inv-loop μ-loop
+wide-requires c κs = search needs
 
 print-hex-requires : tie.Need-print-hex-requires Inv-loop μ-loop
 print-hex-requires c κs = search needs
@@ -44,8 +43,8 @@ write-hex-spec =
     Inv-loop
     μ-loop
     loop-holds
-    shared-slice-read-print-hex
-    cast-print-hex
+    shared-slice-read-wide
+    wide-requires
     print-hex-requires
     add-i
     loop-less

@@ -1,0 +1,100 @@
+-- Both branches are the same law, at the buffer that holds the table.
+use borrow.Author.Needs.{needs}
+use mathlib.Core.Path.{sym}
+use lib.Seq.{length-take-le}
+use denote.Ref.{now}
+use Rattle.replays.specs.State.{held-by}
+use Rattle.replays.specs.Laws.State.{advances}
+use Rattle.replays.proofs.advance.Statement.{statement}
+use Rattle.replays.proofs.advance.Tie as tie
+
+slice-reshare-prefix-step : tie.Need-slice-reshare-prefix-step
+unfolding held-by
+slice-reshare-prefix-step c = rw (c .if1 .taken) at (c .before .before .before .before .before .pre)
+
+slice-aggregate-step : tie.Need-slice-aggregate-step
+slice-aggregate-step c = sym (length-take-le _ _ (slice-reshare-prefix-step (c .before)))
+
+step-requires : tie.Need-step-requires
+step-requires c κs = search needs
+
+state-after-requires : tie.Need-state-after-requires
+state-after-requires c κs = search needs
+
+slice-reshare-prefix-step-2 : tie.Need-slice-reshare-prefix-step-2
+unfolding held-by
+slice-reshare-prefix-step-2 c = rw (c .if1 .left) at (c .before .before .before .before .before .pre)
+
+slice-aggregate-step-2 : tie.Need-slice-aggregate-step-2
+slice-aggregate-step-2 c = sym (length-take-le _ _ (slice-reshare-prefix-step-2 (c .before)))
+
+step-requires-2 : tie.Need-step-requires-2
+step-requires-2 c κs = search needs
+
+state-after-requires-2 : tie.Need-state-after-requires-2
+state-after-requires-2 c κs = search needs
+
+same-length : tie.Need-same-length
+same-length c = search needs
+
+same-length-2 : tie.Need-same-length-2
+same-length-2 c = search needs
+
+returns : tie.Need-returns
+returns c =
+    let s = c .before .before .before .before .before .before .before .before .before .before .before in
+    let a = s .args in
+    let here = c .before .before .before .before .before .before .if1 .taken in
+    let done = c .before .before .before .step in
+    advances (a .state) (now (a .first)) (now (a .second)) (now (a .event)) (done .result) (done .last .1 .1 .1 .0)
+    (rw here (done .ensures .0))
+    (rw here (done .ensures .1))
+    (c .state-after .result)
+    (c .state-after .ensures)
+    (s .pre)
+    _
+    _
+    (rw here)
+    (rw here)
+
+same-length-3 : tie.Need-same-length-3
+same-length-3 c = search needs
+
+same-length-4 : tie.Need-same-length-4
+same-length-4 c = search needs
+
+returns-2 : tie.Need-returns-2
+returns-2 c =
+    let s = c .before .before .before .before .before .before .before .before .before .before .before in
+    let a = s .args in
+    let here = c .before .before .before .before .before .before .if1 .left in
+    let done = c .before .before .before .step2 in
+    advances (a .state) (now (a .first)) (now (a .second)) (now (a .event)) (done .result) (done .last .1 .1 .1 .0)
+    (rw here (done .ensures .0))
+    (rw here (done .ensures .1))
+    (c .state-after2 .result)
+    (c .state-after2 .ensures)
+    (s .pre)
+    _
+    _
+    (rw here)
+    (rw here)
+
+pub advance-spec : {M : Type 1} → statement M
+advance-spec =
+    tie.close
+    (tie.spec
+    slice-reshare-prefix-step
+    slice-aggregate-step
+    step-requires
+    state-after-requires
+    slice-reshare-prefix-step-2
+    slice-aggregate-step-2
+    step-requires-2
+    state-after-requires-2
+    same-length
+    same-length-2
+    returns
+    same-length-3
+    same-length-4
+    returns-2)
