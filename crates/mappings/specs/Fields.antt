@@ -1,22 +1,21 @@
 -- Laws of mapping records, kind by kind: where a field stands, how long a held record is, and what
 -- the length of a valid record says.
-use Prim.Native.Nat.{ℕ, _+_, _^_, _≤_, _<_, zero-le}
-use mathlib.Core.Bool.{Bool, true, false, cond, _&&_, _||_, and-true, and-false, and-assoc, and-eq-true-iff, false≢true}
+use Prim.Native.Nat.{ℕ, _+_, _*_, _/_, _%_, _^_, _≤_, _<_, zero-le}
+use mathlib.Core.Bool.{Bool, true, false, cond, not, _&&_, _||_, and-true, and-false, and-eq-true-iff, or-false, false≢true}
 use mathlib.Core.List.{List}
 use mathlib.Core.Logic.{_⊎_, inl, inr, ⊎-elim}
 use mathlib.Core.Path.{_≡_, refl, sym, ap, subst, _∙_}
-use native.Mathlib.Nat.{mod-one, le-trans, lt-of-lt-of-le}
+use native.Mathlib.Nat.{le-trans}
 use native.Mathlib.Omega.{arith}
 use borrow.Author.Tests.{eqb-true, ne-eqb, leb-true, le-leb, lt-leb}
-use lib.Dec.{eqb, leb, ltb, lit≤}
+use lib.Dec.{eqb, leb, lit≤}
 use lib.ListN.{length}
 use Rattle.model.specs.Bits.{number}
-use Rattle.model.specs.Context.{pcid-in-range}
 use Rattle.model.specs.Layouts.{Field, field, kind-of, mapping-kind, body-of, length-of, width-in, offset-in}
-use Rattle.model.specs.Mappings.{mapping, page-in-range, fields-in-range, starts-record, record-length, reading}
+use Rattle.model.specs.Mappings.{mapping, global-translation, span-in-range, page-in-range, fields-in-range, starts-record, record-length, reading}
 use Rattle.model.specs.declared.Reading.the-variants.{Record, Nothing}
 use Rattle.model.specs.declared.Mapping.{Mapping}
-use Rattle.mappings.specs.Held.{Held}
+use Rattle.mappings.specs.Held.{Held, SpanAt}
 
 -- ---- kinds
 
@@ -47,38 +46,34 @@ by-kind-but P a b p1 p2 p3 p4 p5 p6 k known none =
     let off-b : eqb k b ≡ false = ne-eqb k b (λ e. none (inr e)) in
     rw (off-a, off-b) at at
 
--- a known kind is one of the six
-pub kind-cases : (k : ℕ) → mapping-kind k ≡ true → (k ≡ 1) ⊎ (k ≡ 2) ⊎ (k ≡ 3) ⊎ (k ≡ 4) ⊎ (k ≡ 5) ⊎ (k ≡ 6)
-kind-cases =
-    by-kind (λ k. (k ≡ 1) ⊎ (k ≡ 2) ⊎ (k ≡ 3) ⊎ (k ≡ 4) ⊎ (k ≡ 5) ⊎ (k ≡ 6))
-    (inl refl)
-    (inr (inl refl))
-    (inr (inr (inl refl)))
-    (inr (inr (inr (inl refl))))
-    (inr (inr (inr (inr (inl refl)))))
-    (inr (inr (inr (inr (inr refl)))))
-
--- a kind that is none of the six is not known, and one that is not known is none of the six
-pub kind-none : (k : ℕ) → (k ≡ 1 → ⊥) → (k ≡ 2 → ⊥) → (k ≡ 3 → ⊥) → (k ≡ 4 → ⊥) → (k ≡ 5 → ⊥) → (k ≡ 6 → ⊥) → mapping-kind k ≡ false
-kind-none k n1 n2 n3 n4 n5 n6 = go (mapping-kind k) refl
-  where
-    go : (b : Bool) → mapping-kind k ≡ b → b ≡ false
-    go true e = absurd (by-kind (λ n. k ≡ n → ⊥) n1 n2 n3 n4 n5 n6 k e refl)
-    go false e = refl
-
+-- a known kind is none that is not known
 pub unknown-not : (k n : ℕ) → mapping-kind k ≡ false → mapping-kind n ≡ true → k ≡ n → ⊥
 unknown-not k n unknown known e = false≢true (sym unknown ∙ ap mapping-kind e ∙ known)
+
+-- the known kinds are those from 1 to 6
+pub kind-range : (k : ℕ) → mapping-kind k ≡ (leb 1 k && leb k 6)
+unfolding mapping-kind
+kind-range k = go (mapping-kind k) refl
+  where
+    outside : mapping-kind k ≡ false → (a b : Bool) → leb 1 k ≡ a → leb k 6 ≡ b → false ≡ (a && b)
+    outside h true true p q =
+        absurd
+        (omega (arith, leb-true 1 k p, leb-true k 6 q, unknown-not k 1 h refl, unknown-not k 2 h refl, unknown-not k 3 h refl, unknown-not k 4 h refl, unknown-not k 5 h refl, unknown-not k 6 h refl))
+    outside h true false p q = refl
+    outside h false b p q = refl
+
+    go : (b : Bool) → mapping-kind k ≡ b → b ≡ (leb 1 k && leb k 6)
+    go true h = by-kind (λ k. true ≡ (leb 1 k && leb k 6)) refl refl refl refl refl refl k h
+    go false h = outside h (leb 1 k) (leb k 6) refl refl
+
+pub kind-below : (k : ℕ) → mapping-kind k ≡ true → k ≤ 6
+kind-below = by-kind (λ k. k ≤ 6) (lit≤ tt) (lit≤ tt) (lit≤ tt) (lit≤ tt) (lit≤ tt) (lit≤ tt)
 
 -- ---- fields
 
 -- a field where kind k has it
 abbrev pub field-at : Field → ℕ → List ℕ → ℕ
 field-at f k r = number (width-in (body-of k) f) (1 + offset-in (body-of k) f) r
-
--- at a literal kind the right side computes, under `unfolding body-of`, to `number 2 3 r` and the like
-pub field-of-kind : (f : Field) (r : List ℕ) (k : ℕ) → kind-of r ≡ k → field f r ≡ field-at f k r
-unfolding field
-field-of-kind f r k e = ap (λ (k : ℕ). field-at f k r) e
 
 -- the mapping that r says, read as one of kind k
 abbrev pub mapping-at : ℕ → List ℕ → Mapping
@@ -118,10 +113,6 @@ mapping-but P r {a} {b} held none p1 p2 p3 p4 p5 p6 =
     rw (mapping-of-kind r (kind-of r) refl)
     (by-kind-but (λ k. P (mapping-at k r)) a b p1 p2 p3 p4 p5 p6 (kind-of r) (held .known) none)
 
--- every page is a multiple of the one page of span 0
-pub page-in-range-0 : (page : ℕ) → page-in-range 0 page ≡ ltb page (2 ^ 36)
-page-in-range-0 page = rw (mod-one, and-true)
-
 -- ---- the length of a held record
 
 -- every kind has 16 bytes or more
@@ -136,27 +127,75 @@ held-length r held = le-trans (least-length (kind-of r) (held .known)) (held .fi
 pub held-length-of-kind : (r : List ℕ) (k : ℕ) → kind-of r ≡ k → Held r → length-of k ≤ length r
 held-length-of-kind r k e held = subst (λ (k : ℕ). length-of k ≤ length r) e (held .fits)
 
--- a held record that is no structure cache with a VPID has 17 bytes or more
-pub held-length-but-4-6 : (r : List ℕ) → Held r → ((kind-of r ≡ 4) ⊎ (kind-of r ≡ 6) → ⊥) → 17 ≤ length r
+-- ---- numbers by kind, a byte for each
+
+pub length-by-kind : (k : ℕ) → mapping-kind k ≡ true → 0x15_1110_1611_1100 / 2 ^ (8 * k) % 256 ≡ length-of k
 unfolding length-of body-of
-held-length-but-4-6 r held none =
-    le-trans
-    (by-kind-but (λ k. 17 ≤ length-of k) 4 6 (lit≤ tt) (lit≤ tt) (lit≤ tt) tt (lit≤ tt) tt (kind-of r) (held .known) none)
-    (held .fits)
+length-by-kind = by-kind (λ k. 0x15_1110_1611_1100 / 2 ^ (8 * k) % 256 ≡ length-of k) refl refl refl refl refl refl
+
+-- where the span stands, by kind
+abbrev span-by-kind : ℕ → ℕ
+span-by-kind k = 0x05_0605_0606_0600 / 2 ^ (8 * k) % 256
+
+pub span-at-held : (r : List ℕ) (at : ℕ) → Held r → at ≡ span-by-kind (kind-of r) → SpanAt r at
+unfolding length-of body-of
+span-at-held r at held is =
+    rw is
+    (record {
+      span = mapping-by-kind (λ k m. number 1 (span-by-kind k) r ≡ m .span) r refl refl refl refl refl refl held;
+      page = mapping-by-kind (λ k m. number 5 (span-by-kind k + 1) r ≡ m .page) r refl refl refl refl refl refl held;
+      frame = mapping-by-kind (λ k m. number 5 (span-by-kind k + 6) r ≡ m .frame) r refl refl refl refl refl refl held;
+      fits =
+          le-trans
+          (by-kind (λ k. span-by-kind k + 11 ≤ length-of k) (lit≤ tt) (lit≤ tt) (lit≤ tt) (lit≤ tt) (lit≤ tt) (lit≤ tt) (kind-of r) (held .known))
+          (held .fits);
+    })
+
+-- ---- ranges
+
+-- the range of a span, by tests with no branch
+pub span-tests : (k s : ℕ) → span-in-range k s ≡ ((leb k 3 && leb s 2) || (not (leb k 3) && (leb 1 s && leb s 3)))
+span-tests k s = go (leb k 3)
+  where
+    go : (b : Bool) → cond b (leb s 2) (leb 1 s && leb s 3) ≡ ((b && leb s 2) || (not b && (leb 1 s && leb s 3)))
+    go true = sym (or-false (leb s 2))
+    go false = refl
+
+-- a span in its kind's range is at most 3
+pub span-below : (k s : ℕ) → span-in-range k s ≡ true → s ≤ 3
+span-below k s = go (leb k 3)
+  where
+    go : (b : Bool) → cond b (leb s 2) (leb 1 s && leb s 3) ≡ true → s ≤ 3
+    go true e = omega (arith, leb-true s 2 e)
+    go false e = leb-true s 3 (and-eq-true-iff (leb 1 s) (leb s 3) .0 e .1)
+
+-- a span out of its range puts the fields out of theirs
+pub ranges-off : (m : Mapping) → span-in-range (m .kind) (m .span) ≡ false → fields-in-range m ≡ false
+unfolding fields-in-range
+ranges-off m off = rw (off, and-false)
+
+-- the other fields' ranges, by tests of the kind and of the bytes where some kinds have the fields
+abbrev pub tests-of : List ℕ → Mapping → Bool
+tests-of r m =
+    (not (eqb (m .kind) 1 || eqb (m .kind) 3) || leb (number 1 5 r) 1)
+    && (eqb (m .kind) 2 || eqb (m .kind) 5 || leb (number 2 3 r) 4095)
+    && page-in-range (m .span) (m .page)
+
+pub ranges-tests : (r : List ℕ) → Held r → span-in-range (mapping r .kind) (mapping r .span) ≡ true → tests-of r (mapping r) ≡ fields-in-range (mapping r)
+unfolding fields-in-range body-of
+ranges-tests r held =
+    mapping-by-kind (λ k m. span-in-range (m .kind) (m .span) ≡ true → tests-of r m ≡ fields-in-range m) r
+    (λ on. rw (on, and-true)) (λ on. rw on) (λ on. rw (on, and-true)) (λ on. rw (on, and-true)) (λ on. rw on) (λ on. rw (on, and-true))
+    held
+
+pub global-tests : (r : List ℕ) → Held r → ((eqb (mapping r .kind) 1 || eqb (mapping r .kind) 3) && eqb (number 1 5 r) 1) ≡ global-translation (mapping r)
+unfolding body-of
+global-tests r held =
+    mapping-by-kind (λ k m. ((eqb (m .kind) 1 || eqb (m .kind) 3) && eqb (number 1 5 r) 1) ≡ global-translation m) r
+    refl refl refl refl refl refl
+    held
 
 -- ---- the length of a valid record
-
--- `starts-record` and `record-length`, read as of kind k
-abbrev pub starts-record-at : ℕ → List ℕ → Bool
-starts-record-at k r = mapping-kind k && leb (length-of k) (length r) && fields-in-range (mapping-at k r)
-
-pub starts-record-of-kind : (r : List ℕ) (k : ℕ) → kind-of r ≡ k → starts-record r ≡ starts-record-at k r
-unfolding starts-record mapping field
-starts-record-of-kind r k e = ap (λ (k : ℕ). starts-record-at k r) e
-
-pub record-length-of-kind : (r : List ℕ) (k : ℕ) → kind-of r ≡ k → record-length r ≡ cond (starts-record-at k r) (length-of k) 0
-unfolding record-length starts-record mapping field
-record-length-of-kind r k e = ap (λ (k : ℕ). cond (starts-record-at k r) (length-of k) 0) e
 
 -- no record starts where its kind is not known
 pub record-length-unknown : (r : List ℕ) → mapping-kind (kind-of r) ≡ false → record-length r ≡ 0
@@ -164,45 +203,14 @@ unfolding record-length starts-record
 record-length-unknown r e = rw e
 
 -- nor where the bytes are fewer than the kind's
-pub record-length-short : (r : List ℕ) (k : ℕ) → kind-of r ≡ k → length r < length-of k → record-length r ≡ 0
-record-length-short r k e short =
-    record-length-of-kind r k e ∙ rw (lt-leb (length-of k) (length r) short, and-false)
+pub record-length-short : (r : List ℕ) → length r < length-of (kind-of r) → record-length r ≡ 0
+unfolding record-length starts-record
+record-length-short r short = rw (lt-leb (length-of (kind-of r)) (length r) short, and-false)
 
--- where the bytes are enough, the fields decide
-pub record-length-fits : (r : List ℕ) (k : ℕ) → kind-of r ≡ k → mapping-kind k ≡ true → length-of k ≤ length r → record-length r ≡ cond (fields-in-range (mapping-at k r)) (length-of k) 0
-record-length-fits r k e known fits =
-    record-length-of-kind r k e ∙ rw (known, le-leb (length-of k) (length r) fits)
-
--- the ranges of a translation's fields and of a structure cache's, with span and page together
-abbrev pub in-translation-ranges : Mapping → Bool
-in-translation-ranges m =
-    leb (m .global) 1 && pcid-in-range (m .pcid) && (leb (m .span) 2 && page-in-range (m .span) (m .page))
-
-abbrev pub in-structure-ranges : Mapping → Bool
-in-structure-ranges m =
-    leb (m .global) 1 && pcid-in-range (m .pcid) && (leb 1 (m .span) && leb (m .span) 3 && page-in-range (m .span) (m .page))
-
-pub ranges-of-kind : (m : Mapping) → fields-in-range m ≡ cond (leb (m .kind) 3) (in-translation-ranges m) (in-structure-ranges m)
-unfolding fields-in-range
-ranges-of-kind m = go (leb (m .kind) 3)
-  where
-    go : (b : Bool) → (leb (m .global) 1 && pcid-in-range (m .pcid) && cond b (leb (m .span) 2) (leb 1 (m .span) && leb (m .span) 3) && page-in-range (m .span) (m .page)) ≡ cond b (in-translation-ranges m) (in-structure-ranges m)
-    go true = and-assoc (leb (m .global) 1 && pcid-in-range (m .pcid)) _ _
-    go false = and-assoc (leb (m .global) 1 && pcid-in-range (m .pcid)) _ _
-
--- the same as a length, for a test that says whether the fields are in their ranges; at a literal
--- kind what it says of them computes, under `unfolding body-of`
-pub record-length-said : (r : List ℕ) (k : ℕ) (said b : Bool) → kind-of r ≡ k → mapping-kind k ≡ true → length-of k ≤ length r → said ≡ cond (leb k 3) (in-translation-ranges (mapping-at k r)) (in-structure-ranges (mapping-at k r)) → said ≡ b → cond b (length-of k) 0 ≡ record-length r
-record-length-said r k said b e known fits says is =
-    sym (record-length-fits r k e known fits ∙ ap (λ t. cond t (length-of k) 0) (ranges-of-kind (mapping-at k r) ∙ sym says ∙ is))
-
--- fewer than 16 bytes hold no record
-pub record-length-below-16 : (r : List ℕ) → length r < 16 → record-length r ≡ 0
-record-length-below-16 r short = go (mapping-kind (kind-of r)) refl
-  where
-    go : (b : Bool) → mapping-kind (kind-of r) ≡ b → record-length r ≡ 0
-    go true e = record-length-short r (kind-of r) refl (lt-of-lt-of-le short (least-length (kind-of r) e))
-    go false e = record-length-unknown r e
+-- the fields of a held record decide
+pub record-length-held : (r : List ℕ) (b : Bool) → Held r → fields-in-range (mapping r) ≡ b → record-length r ≡ cond b (length-of (kind-of r)) 0
+unfolding record-length starts-record
+record-length-held r b held is = rw (held .known, le-leb (length-of (kind-of r)) (length r) (held .fits), is)
 
 -- ---- what a length says
 

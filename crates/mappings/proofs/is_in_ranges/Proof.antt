@@ -1,0 +1,68 @@
+-- A span out of its range decides; else the tests of the other fields do.
+use borrow.Author.Needs.{needs}
+use mathlib.Core.Bool.{true}
+use mathlib.Core.Path.{_≡_, sym, _∙_}
+use native.Mathlib.Omega.{arith}
+use borrow.Author.Tests.{not-true, not-false}
+use denote.Ref.{now}
+use Rattle.model.specs.Mappings.{mapping, span-in-range}
+use Rattle.mappings.specs.Fields.{held-length, span-below, ranges-off, ranges-tests}
+use Rattle.mappings.proofs.is_in_ranges.Statement.{statement}
+use Rattle.mappings.proofs.is_in_ranges.Tie as tie
+
+kind-requires : tie.Need-kind-requires
+kind-requires c κs = search needs
+
+span-requires : tie.Need-span-requires
+span-requires c κs = search needs
+
+is-span-requires : tie.Need-is-span-requires
+is-span-requires c κs = search needs
+
+-- what the test of the span says
+said : (c : tie.After-is-span) → c .is-span .result ≡ span-in-range (mapping (now (c .before .before .before .before .args .part)) .kind) (mapping (now (c .before .before .before .before .args .part)) .span)
+said c = rw (c .before .before .kind .ensures, c .before .span .ensures) at (c .is-span .ensures)
+
+returns : tie.Need-returns
+returns c = sym (ranges-off _ (sym (said (c .before)) ∙ not-true _ (c .if1 .taken)))
+
+number1-requires : tie.Need-number1-requires
+number1-requires c κs = omega (arith, held-length _ (c .before .before .before .before .before .pre))
+
+number2-requires : tie.Need-number2-requires
+number2-requires c κs = omega (arith, held-length _ (c .before .before .before .before .before .before .pre))
+
+page-requires : tie.Need-page-requires
+page-requires c κs = search needs
+
+is-page-requires : tie.Need-is-page-requires
+is-page-requires c κs =
+    let c4 = c .before .before .before .before in
+    span-below (c4 .before .before .kind .result) _ (sym (c4 .is-span .ensures) ∙ not-false _ (c .before .before .before .if1 .left))
+
+returns-2 : tie.Need-returns-2
+returns-2 c =
+    let on = sym (said (c .before .before .before .before .before)) ∙ not-false _ (c .before .before .before .before .if1 .left) in
+    rw (
+      c .is-page .ensures,
+      c .before .page .ensures,
+      c .before .before .number2 .ensures .0,
+      c .before .before .before .number1 .ensures .0,
+      c .before .before .before .before .before .before .span .ensures,
+      c .before .before .before .before .before .before .before .kind .ensures,
+    )
+    (ranges-tests _ (c .before .before .before .before .before .before .before .before .before .pre) on)
+
+pub is-in-ranges-spec : {M : Type 1} → statement M
+is-in-ranges-spec =
+    tie.close
+    (tie.spec
+    kind-requires
+    span-requires
+    is-span-requires
+    returns
+    number1-requires
+    number2-requires
+    page-requires
+    is-page-requires
+    returns-2)

@@ -1,0 +1,22 @@
+-- The number by kind is where the layout has the span.
+use borrow.Author.Needs.{needs}
+use mathlib.Core.Path.{ap, _∙_}
+use native.Mathlib.Omega.{arith}
+use Rattle.model.specs.Mappings.{mapping}
+use Rattle.mappings.specs.Fields.{kind-below, span-at-held}
+use Rattle.mappings.proofs.span_at.Statement.{statement}
+use Rattle.mappings.proofs.span_at.Tie as tie
+
+kind-requires : tie.Need-kind-requires
+kind-requires c κs = search needs
+
+of-kind-requires : tie.Need-of-kind-requires
+unfolding mapping
+of-kind-requires c κs = omega (arith, c .kind .ensures, kind-below _ (c .before .before .pre .known))
+
+returns : tie.Need-returns
+unfolding mapping
+returns c = span-at-held _ _ (c .before .before .before .pre) (rw (c .before .kind .ensures) at (c .of-kind .ensures))
+
+pub span-at-spec : {M : Type 1} → statement M
+span-at-spec = tie.close (tie.spec kind-requires of-kind-requires returns)
