@@ -1,0 +1,119 @@
+//! `bench [--csv FILE] [--svg FILE]`: what an event and a record cost.
+
+mod lookups;
+mod measure;
+mod plot;
+mod replays;
+mod report;
+mod steps;
+mod tables;
+
+use measure::{Buffers, Item};
+use model::{Address, TABLE_LIMIT};
+use report::{Row, What};
+use std::env;
+use std::process::ExitCode;
+use tables::{Shape, COUNTS, SHAPES};
+
+const USAGE: &str = "usage: bench [--csv FILE] [--svg FILE]";
+
+const NOTES: &str = "\
+The proved library beside the tuned model and a plain copy of the same bytes,
+in one run. Each time is the least of many, taken in turn. All buffers were
+filled before the first call and not cleared between calls. Calls take several
+tables of one shape and size in turn, 11,264 records in all, so that no table
+is learnt by heart. A creation on the fullest table finds one record fewer.
+'growth' is the time at 2,816 records over that at 1,408; a full table of
+mixed kinds has fewer, and its growth is scaled to twice the records.";
+
+/// How often all is measured, and how often in a row.
+const PASSES: u32 = 12;
+const IN_A_ROW: u32 = 3;
+
+/// Where to write, besides standard output.
+#[derive(Default)]
+struct Files {
+    csv: Option<String>,
+    svg: Option<String>,
+}
+
+fn files(words: &[String]) -> Option<Files> {
+    let mut files = Files::default();
+    for pair in words.chunks(2) {
+        match pair {
+            [flag, file] if flag == "--csv" => files.csv = Some(file.clone()),
+            [flag, file] if flag == "--svg" => files.svg = Some(file.clone()),
+            _ => return None,
+        }
+    }
+    Some(files)
+}
+
+fn main() -> ExitCode {
+    let words: Vec<String> = env::args().skip(1).collect();
+    let Some(files) = files(&words) else {
+        eprintln!("{USAGE}");
+        return ExitCode::from(2);
+    };
+    match bench(&files) {
+        Ok(()) => ExitCode::SUCCESS,
+        Err(why) => {
+            eprintln!("bench: {why}");
+            ExitCode::FAILURE
+        }
+    }
+}
+
+fn bench(files: &Files) -> Result<(), String> {
+    println!("{NOTES}");
+    let mut items = items()?;
+    for pass in 1..=PASSES {
+        eprintln!("pass {pass} of {PASSES}");
+        for item in &mut items {
+            // Replays take longer, and each is many calls already.
+            let replay = item.row.what == What::Replay;
+            item.measure(if replay { 1 } else { IN_A_ROW });
+        }
+    }
+    let rows: Vec<Row> = items.into_iter().map(|item| item.row).collect();
+    print!("{}", report::table(&rows));
+    println!("\nbars\n{}", report::bars(&rows));
+    write(&files.csv, &report::csv(&rows))?;
+    write(&files.svg, &plot::svg(&rows, Shape::Scattered.name()))
+}
+
+fn write(file: &Option<String>, text: &str) -> Result<(), String> {
+    match file {
+        Some(file) => std::fs::write(file, text).map_err(|error| format!("{file}: {error}")),
+        None => Ok(()),
+    }
+}
+
+fn items() -> Result<Vec<Item>, String> {
+    let (buffers, others) = (Buffers::new(TABLE_LIMIT), Buffers::new(TABLE_LIMIT));
+    let mut items = Vec::new();
+    for shape in SHAPES {
+        let sizes = COUNTS.map(|count| tables::tables(shape, count));
+        for family in steps::families() {
+            for tables in &sizes {
+                items.push(steps::item(&family, tables, &buffers)?);
+            }
+        }
+    }
+    for (shape, address) in [
+        (Shape::Scattered, Address::Linear as fn(u64) -> Address),
+        (Shape::Mixed, Address::Linear),
+        (Shape::Mixed, Address::GuestPhysical),
+    ] {
+        let sizes = COUNTS.map(|count| tables::tables(shape, count));
+        for place in lookups::PLACES {
+            for tables in &sizes {
+                items.extend(lookups::item(tables, address, place, &buffers)?);
+            }
+        }
+    }
+    for log in replays::logs() {
+        items.push(replays::item(log, &buffers, &others)?);
+    }
+    Ok(items)
+}

@@ -1,0 +1,188 @@
+/*
+ * skuldrefn.h: the proved model of the translations that a processor caches
+ * under VMX, for programs in C.
+ *
+ * Link with libskuldrefn.a (x86-64 Linux), which `rt staticlib skuldrefn`
+ * writes to target/staticlib/. It needs no other library.
+ *
+ * Ownership. Every buffer is the caller's. A function reads and writes it
+ * during the call only, within the length that comes with it, and keeps
+ * nothing: no pointer, no copy, no state. Nothing is allocated. So calls from
+ * several threads do not disturb each other if their buffers do not.
+ *
+ * Buffers that are written (new_table, first, second, rows) may overlap no
+ * other buffer of the same call. A pointer may be null if its length is 0.
+ * Any other pointer must be good for its length. Bytes need no alignment.
+ *
+ * Every other input is answered: any number in any field, any bytes in a
+ * table, an event or a log, and any length of a buffer.
+ *
+ * Tables, events and the fields below are those of document 01 ("Mapping
+ * records", "Events", "Context"): one byte of kind, then a body whose length
+ * the kind fixes; little-endian.
+ */
+#ifndef SKULDREFN_H
+#define SKULDREFN_H
+
+#include <stddef.h>
+#include <stdint.h>
+
+#ifdef __cplusplus
+extern "C" {
+#endif
+
+/* The longest table, in bytes. */
+#define SKULDREFN_TABLE_LIMIT 45056
+
+/* The bytes of one row that skuldrefn_replay writes. */
+#define SKULDREFN_ROW 24
+
+/*
+ * The answers. The lowest number that applies is given, and only then.
+ * skuldrefn_step gives 0 to 12, a lookup 0 to 3.
+ */
+enum {
+    SKULDREFN_ACCEPTED = 0,      /* none of the others applies */
+    SKULDREFN_BAD_CONTEXT = 1,   /* a context field is out of its range */
+    SKULDREFN_LONG_TABLE = 2,    /* the table is longer than 45,056 bytes */
+    SKULDREFN_BAD_TABLE = 3,     /* the table is not whole, valid records */
+    SKULDREFN_BAD_EVENT = 4,     /* the event is not exactly one valid record */
+    SKULDREFN_UD = 5,            /* #UD: INVVPID, INVEPT, VM entry or VMXOFF
+                                    outside VMX; INVVPID without capability
+                                    bit 32, INVEPT without bit 20 */
+    SKULDREFN_VM_EXIT = 6,       /* INVVPID, INVEPT, VM entry, VMXON or VMXOFF
+                                    in a guest: it exits and does nothing */
+    SKULDREFN_GP = 7,            /* #GP(0): those five or INVLPG with CPL
+                                    above 0 */
+    SKULDREFN_VMFAIL = 8,        /* VMfail: an invalid operand of INVVPID or
+                                    INVEPT */
+    SKULDREFN_OUT_OF_PLACE = 9,  /* VMXON in root; VM exit not in a guest; EPT
+                                    violation not in a guest with EPT */
+    SKULDREFN_BAD_ENTRY = 10,    /* VM entry: VPIDs enabled with VPID 0, or EPT
+                                    enabled with a bad EPTP */
+    SKULDREFN_NOT_CREATABLE = 11, /* a mapping that cannot be created here */
+    SKULDREFN_NO_ROOM = 12       /* the new buffer, or 45,056, is less than the
+                                    old table's length, plus the record's for
+                                    a creation */
+};
+
+/* The numbers of a place. */
+enum {
+    SKULDREFN_OUTSIDE = 0, /* outside VMX */
+    SKULDREFN_ROOT = 1,
+    SKULDREFN_GUEST = 2
+};
+
+/*
+ * A context: what of the processor matters besides the table. The last three
+ * fields are looked at in a guest only, and ep4ta with ept 1 only. What is out
+ * of its range, and a place or ept number other than those named here, is
+ * answered 1.
+ */
+typedef struct {
+    uint64_t capability; /* IA32_VMX_EPT_VPID_CAP, any number */
+    uint64_t width;      /* the physical width N, 36 to 52 */
+    uint64_t pcid;       /* 0 to 4,095 */
+    uint64_t cpl;        /* 0 to 3 */
+    uint64_t place;      /* 0 outside VMX, 1 root, 2 guest */
+    uint64_t vpid;       /* 0 to 65,535; 0 if VPIDs are not enabled */
+    uint64_t ept;        /* 0 off, 1 on */
+    uint64_t ep4ta;      /* below 2^40: bits 51 to 12 of the EPTP */
+} skuldrefn_context;
+
+/* What a step reports. */
+typedef struct {
+    uint64_t answer;           /* 0 to 12 */
+    skuldrefn_context context; /* the context after the event */
+    size_t length;             /* the new table's length in bytes */
+    size_t dropped;            /* how many records went */
+} skuldrefn_step_result;
+
+/*
+ * One event on a context and a table.
+ *
+ * table, table_length: the old table; it is only read.
+ * event, event_length: the event; it is only read.
+ * new_table, new_length: where the new table is written, from the start.
+ * Bytes past its length stay as they were. A buffer of 45,056 bytes is always
+ * enough.
+ *
+ * With answer 0 the new table is in new_table[0 .. length - 1], and the
+ * context is the one after the event; fields that its place lacks are 0. With
+ * any other answer nothing is written, the context is handed back as it came,
+ * length and dropped are 0, and the old table remains in force.
+ */
+skuldrefn_step_result skuldrefn_step(
+    skuldrefn_context context,
+    const uint8_t *table, size_t table_length,
+    const uint8_t *event, size_t event_length,
+    uint8_t *new_table, size_t new_length);
+
+/* What a lookup reports: a part of the table. */
+typedef struct {
+    uint64_t answer; /* 0 to 3 */
+    size_t start;    /* where the record starts in the table */
+    size_t length;   /* its length in bytes with its kind byte */
+} skuldrefn_part;
+
+/*
+ * The k-th record, from 0, that is usable at a linear address (any number; a
+ * non-canonical one has none). The record is
+ * table[start .. start + length - 1]. start and length are 0 if there is no
+ * such record or the answer is not 0. The table is only read.
+ */
+skuldrefn_part skuldrefn_lookup_linear(
+    skuldrefn_context context,
+    const uint8_t *table, size_t table_length,
+    uint64_t address, uint64_t k);
+
+/*
+ * The same for a guest-physical address (any number; one of 2^48 or more has
+ * none, and none has any with EPT not in use).
+ */
+skuldrefn_part skuldrefn_lookup_guest_physical(
+    skuldrefn_context context,
+    const uint8_t *table, size_t table_length,
+    uint64_t address, uint64_t k);
+
+/* What a replay reports. */
+typedef struct {
+    skuldrefn_context context; /* the context in force at the end */
+    size_t length;             /* the length of the table in force */
+    uint64_t first;            /* 1 if the first buffer holds that table, 0 if
+                                  the second does */
+    size_t count;              /* the number of events replayed, which is that
+                                  of the rows written */
+} skuldrefn_replayed;
+
+/*
+ * A whole log of events end to end, of any length, from a reset: outside VMX,
+ * PCID 0, CPL 0, an empty table.
+ *
+ * capability, width: those of the context; a width out of its range has every
+ * event answered 1.
+ * log, log_length: the log; it is only read.
+ * first, second: two buffers for tables, which hold the table in force in
+ * turn. With 45,056 bytes each there is all the room that answer 12 allows;
+ * with fewer, less.
+ * rows, rows_length: one row of 24 bytes for each event: its answer, its
+ * dropped count, and the length of the table in force after it, 8 bytes each,
+ * little-endian. Bytes past the last row stay as they were. 24 times
+ * log_length is always enough.
+ *
+ * The replay ends with the log, after an unknown kind or a cut record (which
+ * takes all bytes left and is answered 4), after an answer 2 or 3, or where
+ * there is no room for another row.
+ */
+skuldrefn_replayed skuldrefn_replay(
+    uint64_t capability, uint64_t width,
+    const uint8_t *log, size_t log_length,
+    uint8_t *first, size_t first_length,
+    uint8_t *second, size_t second_length,
+    uint8_t *rows, size_t rows_length);
+
+#ifdef __cplusplus
+}
+#endif
+
+#endif

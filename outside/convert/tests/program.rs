@@ -1,0 +1,101 @@
+//! The program itself: its streams and its exit status.
+
+use std::fs::File;
+use std::io::Write;
+use std::process::{Command, Output, Stdio};
+
+fn run(words: &[&str], input: &[u8], stdout: Stdio) -> Output {
+    let mut child = Command::new(env!("CARGO_BIN_EXE_convert"))
+        .args(words)
+        .stdin(Stdio::piped())
+        .stdout(stdout)
+        .stderr(Stdio::piped())
+        .spawn()
+        .expect("the program starts");
+    // The child may end before it reads; that shows in its status.
+    let _ = child.stdin.take().expect("a pipe").write_all(input);
+    child.wait_with_output().expect("the program ends")
+}
+
+fn said(output: &Output) -> &str {
+    std::str::from_utf8(&output.stderr).expect("text")
+}
+
+#[test]
+fn both_ways() {
+    let output = run(&["assemble"], b"vmxon\nexit pcid=0x1\n", Stdio::piped());
+    assert!(output.status.success());
+    assert_eq!(output.stdout, [22, 21, 1, 0]);
+    assert!(output.stderr.is_empty());
+    let output = run(&["disassemble"], &[22, 21, 1, 0, 9], Stdio::piped());
+    assert!(output.status.success());
+    assert_eq!(
+        String::from_utf8_lossy(&output.stdout),
+        "# 5 bytes\n\
+         vmxon  # event 1 at byte 0\n\
+         exit pcid=0x1  # event 2 at byte 1\n\
+         raw 09  # event 3 at byte 4: unknown kind 0x9, a replay ends here\n"
+    );
+}
+
+#[test]
+fn a_bad_text_writes_nothing() {
+    let output = run(&["assemble"], b"vmxon\nvmxon\nexit\n", Stdio::piped());
+    assert_eq!(output.status.code(), Some(1));
+    assert!(output.stdout.is_empty());
+    assert_eq!(said(&output), "line 3: exit: field 'pcid' is missing\n");
+}
+
+#[test]
+fn a_long_log_is_noted() {
+    let text = "reset\n".repeat(65_537);
+    let output = run(&["assemble"], text.as_bytes(), Stdio::piped());
+    assert!(output.status.success());
+    assert_eq!(output.stdout, vec![25; 65_537]);
+    assert!(said(&output).contains("65537"));
+}
+
+#[test]
+fn usage() {
+    for words in [&[][..], &["assembel"], &["assemble", "x"]] {
+        let output = run(words, b"", Stdio::piped());
+        assert_eq!(output.status.code(), Some(1));
+        assert!(output.stdout.is_empty());
+        assert!(said(&output).starts_with("usage: "));
+    }
+    let output = run(&["help"], b"", Stdio::piped());
+    assert!(output.status.success());
+    assert!(output.stdout.starts_with(b"usage: "));
+}
+
+#[test]
+fn a_full_disk_is_an_error() {
+    // Linux has a device that is always full; elsewhere there is no such test.
+    let Ok(full) = File::options().write(true).open("/dev/full") else {
+        return;
+    };
+    for (word, input) in [("assemble", &b"vmxon\n"[..]), ("disassemble", &[22][..])] {
+        let stdout = full.try_clone().expect("a second handle");
+        let output = run(&[word], input, stdout.into());
+        assert_eq!(output.status.code(), Some(1));
+        assert!(said(&output).starts_with("cannot write standard output: "));
+    }
+}
+
+#[test]
+fn a_closed_pipe_is_an_error() {
+    let mut child = Command::new(env!("CARGO_BIN_EXE_convert"))
+        .arg("assemble")
+        .stdin(Stdio::piped())
+        .stdout(Stdio::piped())
+        .stderr(Stdio::piped())
+        .spawn()
+        .expect("the program starts");
+    drop(child.stdout.take());
+    let mut stdin = child.stdin.take().expect("a pipe");
+    stdin.write_all(b"vmxon\n").expect("the program reads");
+    drop(stdin);
+    let output = child.wait_with_output().expect("the program ends");
+    assert_eq!(output.status.code(), Some(1));
+    assert!(said(&output).starts_with("cannot write standard output: "));
+}

@@ -1,0 +1,272 @@
+//! Text to log and back, for good texts, bad texts and any bytes.
+
+use convert::{assemble, disassemble, forms::FORMS};
+use generate::{events, hex, log, near_events, Rng, KINDS};
+use model::event::Event;
+
+const SEED: u64 = 5;
+
+/// Document 01's example and one event of each other kind.
+const ALL_KINDS: &str = "\
+vmxon
+entry vpid=0x5 ept=off pcid=0x1 cpl=0x0
+linear vpid=0x5 pcid=0x1 global=0x0 span=0x0 page=0x12345 frame=0xabcde
+exit pcid=0x0
+invvpid type=0x1 vpid=0x5 address=0x0
+guest-physical ep4ta=0x1234567 span=0x0 page=0x10 frame=0x20
+combined vpid=0x5 pcid=0x1 global=0x1 span=0x2 page=0x40000 frame=0xabcde ep4ta=0xffffffffff
+linear-structure vpid=0xffff pcid=0xfff span=0x1 page=0x12200 structure=0x1
+guest-physical-structure ep4ta=0x1234567 span=0x3 page=0xff8000000 structure=0x2
+combined-structure vpid=0x0 pcid=0x0 span=0x2 page=0x40000 structure=0x3 ep4ta=0x1
+invept type=0x1 eptp=0x123456701e
+invlpg address=0xffff800000000000
+ept-violation gpa=0xffffffffffff linear=0xffffffffffffffff
+ept-violation gpa=0x0 linear=off
+entry vpid=off ept=0x123456705e pcid=0xfff cpl=0x3
+switch pcid=0x2 cpl=0x3
+reset
+vmxoff
+";
+
+/// The text of a log without its comments.
+fn bare(text: &str) -> String {
+    let lines = text.lines().map(|line| line.split('#').next().unwrap());
+    let lines = lines.map(str::trim).filter(|line| !line.is_empty());
+    lines.map(|line| format!("{line}\n")).collect()
+}
+
+/// Disassembles, and checks that it assembles to the same log.
+fn there_and_back(log: &[u8]) -> String {
+    let text = disassemble(log);
+    let again = assemble(text.as_bytes()).expect("a disassembled text is good");
+    assert_eq!(again, log, "{}\n{text}", hex(log));
+    text
+}
+
+#[test]
+fn names_go_both_ways() {
+    let log = assemble(ALL_KINDS.as_bytes()).unwrap();
+    assert_eq!(bare(&there_and_back(&log)), ALL_KINDS);
+    for form in &FORMS {
+        assert!(ALL_KINDS.lines().any(|line| line.starts_with(form.name)));
+    }
+}
+
+#[test]
+fn the_papers_bytes() {
+    let log = assemble(ALL_KINDS.as_bytes()).unwrap();
+    let expected = "16 14 01 05 00 00 00 00 00 00 00 00 00 00 01 00 00 \
+         01 05 00 01 00 00 00 45 23 01 00 00 de bc 0a 00 00 \
+         15 00 00 10 01 00 00 00 00 00 00 00 05 00 00 00 00 00 00 00 \
+         00 00 00 00 00 00 00 00 \
+         02 67 45 23 01 00 00 10 00 00 00 00 20 00 00 00 00";
+    assert_eq!(hex(&log[..79]), expected);
+}
+
+#[test]
+fn lengths_agree_with_the_model() {
+    for kind in 0..=255 {
+        let length = FORMS.iter().find(|form| form.kind == kind);
+        assert_eq!(
+            length.map(|form| form.length()),
+            model::event::length(kind),
+            "kind {kind}"
+        );
+    }
+}
+
+#[test]
+fn comments_blanks_and_order() {
+    let text = "# a log\n\n  vmxon # on\r\n\tswitch cpl=0x3   pcid=0x0Aa#x\nraw 16 1718\nraw FF";
+    let log = assemble(text.as_bytes()).unwrap();
+    assert_eq!(hex(&log), "16 18 aa 00 03 16 17 18 ff");
+    assert_eq!(assemble(b"").unwrap(), []);
+    assert_eq!(assemble(b"#").unwrap(), []);
+    assert_eq!(disassemble(&[]), "# 0 bytes\n");
+}
+
+#[test]
+fn errors_name_the_line_and_the_word() {
+    for (text, expected) in [
+        ("vmxon\nvmxof\n", "line 2: unknown event 'vmxof'"),
+        ("\n\n VMXON", "line 3: unknown event 'VMXON'"),
+        ("vmxon now", "line 1: vmxon: 'now' is not name=value"),
+        ("exit", "line 1: exit: field 'pcid' is missing"),
+        ("exit vpid=0x0", "line 1: exit: unknown field 'vpid'"),
+        (
+            "exit pcid=0x0 pcid=0x0",
+            "line 1: exit: field 'pcid' is given twice",
+        ),
+        (
+            "exit pcid=10",
+            "line 1: exit: 'pcid=10': a value is hexadecimal with 0x, as 0x1f",
+        ),
+        (
+            "exit pcid=0x",
+            "line 1: exit: 'pcid=0x': a value is hexadecimal with 0x, as 0x1f",
+        ),
+        (
+            "exit pcid=0x+1",
+            "line 1: exit: 'pcid=0x+1': a value is hexadecimal with 0x, as 0x1f",
+        ),
+        (
+            "exit pcid=off",
+            "line 1: exit: 'pcid=off': a value is hexadecimal with 0x, as 0x1f",
+        ),
+        (
+            "exit pcid=0x1000",
+            "line 1: exit: 'pcid=0x1000': pcid is at most 0xfff (raw can write what is out of range)",
+        ),
+        (
+            "invvpid type=0x1 vpid=0x10000 address=0x0",
+            "line 1: invvpid: 'vpid=0x10000': vpid is at most 0xffff (raw can write what is out of range)",
+        ),
+        (
+            "invlpg address=0x10000000000000000",
+            "line 1: invlpg: 'address=0x10000000000000000': more than 64 bits",
+        ),
+        (
+            "linear vpid=0x0 pcid=0x0 global=0x0 span=0x1 page=0x12201 frame=0x0",
+            "line 1: linear: 'page=0x12201': page is a multiple of 0x200 with span 0x1 (raw can write what is out of range)",
+        ),
+        (
+            "linear-structure vpid=0x0 pcid=0x0 span=0x0 page=0x0 structure=0x0",
+            "line 1: linear-structure: 'span=0x0': span is at least 0x1 (raw can write what is out of range)",
+        ),
+        (
+            "ept-violation gpa=0x0 linear=0x800000000000",
+            "line 1: ept-violation: 'linear=0x800000000000': linear is a canonical address (raw can write what is out of range)",
+        ),
+        ("raw", "line 1: raw: there are no bytes"),
+        ("raw 1", "line 1: raw: '1' has an odd number of digits"),
+        (
+            "raw 0x10",
+            "line 1: raw: '0x10' is not pairs of hexadecimal digits",
+        ),
+        (
+            "raw gg",
+            "line 1: raw: 'gg' is not pairs of hexadecimal digits",
+        ),
+        ("raw ää", "line 1: raw: 'ää' is not pairs of hexadecimal digits"),
+    ] {
+        let error = assemble(text.as_bytes()).expect_err(text);
+        assert_eq!(error.to_string(), expected);
+    }
+    let error = assemble(b"vmxon\n\xFF\xFE").unwrap_err();
+    assert_eq!(error.to_string(), "line 2: not UTF-8 text");
+    let long = "x".repeat(100_000);
+    let error = assemble(long.as_bytes()).unwrap_err();
+    assert_eq!(
+        error.to_string(),
+        format!("line 1: unknown event '{}..'", "x".repeat(40))
+    );
+}
+
+#[test]
+fn what_the_names_cannot_say_is_raw() {
+    for (bytes, reason) in [
+        (vec![24, 0, 0x10, 0], "switch, but pcid is at most 0xfff"),
+        (vec![24, 0, 0, 4], "switch, but cpl is at most 0x3"),
+        (
+            [&[16, 2], &[0; 9][..], &[1], &[0; 13]].concat(),
+            "invvpid, but descriptor bits 63:16 are zero",
+        ),
+        (
+            [&[17, 2], &[0; 15][..], &[1], &[0; 7]].concat(),
+            "invept, but descriptor bits 127:64 are zero",
+        ),
+        (
+            [&[20, 0, 5], &[0; 13][..]].concat(),
+            "entry, but vpid is off and not zero",
+        ),
+        (
+            [&[20, 2], &[0; 14][..]].concat(),
+            "entry, but the flag of vpid is at most 0x1",
+        ),
+        (vec![0], "unknown kind 0x0, a replay ends here"),
+        (
+            vec![16, 1, 0],
+            "invvpid cut to 3 of 25 bytes, a replay ends here",
+        ),
+    ] {
+        let log = [&[22], &bytes[..]].concat();
+        let text = there_and_back(&log);
+        let expected = format!("raw {}  # event 2 at byte 1: {reason}", hex(&bytes));
+        assert_eq!(text.lines().last(), Some(&expected[..]));
+    }
+}
+
+#[test]
+fn any_bytes_go_there_and_back() {
+    println!("seed {SEED}");
+    let mut rng = Rng::new(SEED);
+    for _ in 0..5_000 {
+        let count = rng.below(200);
+        let mut bytes = rng.bytes(count);
+        if rng.one_in(2) && !bytes.is_empty() {
+            bytes[0] = rng.pick(&KINDS);
+        }
+        there_and_back(&bytes);
+    }
+    for length in [65_535, 65_536, 65_537, 100_000] {
+        there_and_back(&rng.bytes(length));
+        let text = there_and_back(&vec![25; length]);
+        assert_eq!(text.contains("too long"), length > 65_536);
+    }
+}
+
+#[test]
+fn logs_go_there_and_back() {
+    println!("seed {SEED}");
+    let mut rng = Rng::new(SEED);
+    for _ in 0..500 {
+        let length = rng.below(2_000);
+        there_and_back(&log(&mut rng, length));
+        there_and_back(&events(&mut rng, 20).concat());
+    }
+}
+
+#[test]
+fn every_truncation_goes_there_and_back() {
+    let log = assemble(ALL_KINDS.as_bytes()).unwrap();
+    for end in 0..=log.len() {
+        there_and_back(&log[..end]);
+    }
+}
+
+#[test]
+fn names_are_for_valid_events_alone() {
+    // Each event one field away from a valid one: written by name exactly if
+    // it is valid and holds no bits that the names leave out.
+    println!("seed {SEED}");
+    let mut rng = Rng::new(SEED);
+    let (mut named, mut raw) = (0, 0);
+    for _ in 0..30 {
+        let context = generate::context(&mut rng);
+        for kind in KINDS {
+            let event = generate::event_of_kind(&mut rng, &context, kind);
+            for near in near_events(&event).into_iter().chain([event]) {
+                let text = there_and_back(&near);
+                let by_name = !bare(&text).starts_with("raw");
+                let valid = Event::decode(&near).is_some();
+                assert_eq!(by_name, valid && !holds_more(&near), "{}", hex(&near));
+                named += usize::from(by_name);
+                raw += usize::from(!by_name);
+            }
+        }
+    }
+    println!("{named} by name, {raw} raw");
+    assert!(named > 10_000 && raw > 1_000);
+}
+
+/// Whether an event holds bits that the names leave out.
+fn holds_more(event: &[u8]) -> bool {
+    let set = |part: &[u8]| part.iter().any(|byte| *byte != 0);
+    match event[0] {
+        16 => set(&event[11..17]),
+        17 => set(&event[17..25]),
+        19 => event[9] == 0 && set(&event[10..18]),
+        20 => event[1] == 0 && set(&event[2..4]) || event[4] == 0 && set(&event[5..13]),
+        _ => false,
+    }
+}

@@ -1,0 +1,117 @@
+//! Cases: what is compared, as text that can be replayed.
+
+use crate::lookup::LookupCase;
+use crate::replay::ReplayCase;
+use crate::run::RunCase;
+use crate::step::StepCase;
+use crate::tally::Tally;
+use std::fmt;
+use std::time::{Duration, Instant};
+
+/// Any case.
+#[derive(Clone, Debug, PartialEq, Eq)]
+pub enum Case {
+    Step(StepCase),
+    Lookup(LookupCase),
+    Run(RunCase),
+    Replay(ReplayCase),
+}
+
+/// A case in which the library differs from the model, and in what.
+#[derive(Clone, Debug)]
+pub struct Failure {
+    pub case: Box<Case>,
+    pub why: String,
+}
+
+impl Case {
+    /// Compares the library with the model.
+    pub fn check(&self, tally: &mut Tally) -> Result<(), String> {
+        match self {
+            Case::Step(case) => case.check(tally),
+            Case::Lookup(case) => case.check(tally),
+            Case::Run(case) => case.check(tally),
+            Case::Replay(case) => case.check(tally),
+        }
+    }
+
+    /// The same, with the case itself if they differ.
+    pub fn compare(self, tally: &mut Tally) -> Result<(), Failure> {
+        match self.check(tally) {
+            Ok(()) => Ok(()),
+            Err(why) => {
+                let case = Box::new(self);
+                Err(Failure { case, why })
+            }
+        }
+    }
+
+    /// Cases with a part taken out, larger parts first.
+    fn smaller(&self) -> Vec<Case> {
+        match self {
+            Case::Step(case) => case.smaller().into_iter().map(Case::Step).collect(),
+            Case::Lookup(case) => case.smaller().into_iter().map(Case::Lookup).collect(),
+            Case::Run(case) => case.smaller().into_iter().map(Case::Run).collect(),
+            Case::Replay(case) => case.smaller().into_iter().map(Case::Replay).collect(),
+        }
+    }
+}
+
+impl fmt::Display for Case {
+    fn fmt(&self, f: &mut fmt::Formatter) -> fmt::Result {
+        match self {
+            Case::Step(case) => case.fmt(f),
+            Case::Lookup(case) => case.fmt(f),
+            Case::Run(case) => case.fmt(f),
+            Case::Replay(case) => case.fmt(f),
+        }
+    }
+}
+
+impl Failure {
+    /// A smaller case that fails too, sought for a few seconds.
+    pub fn shrink(mut self) -> Failure {
+        let start = Instant::now();
+        'again: loop {
+            for case in self.case.smaller() {
+                if start.elapsed() > Duration::from_secs(5) {
+                    return self;
+                }
+                if let Err(failure) = case.compare(&mut Tally::default()) {
+                    self = failure;
+                    continue 'again;
+                }
+            }
+            return self;
+        }
+    }
+}
+
+/// The parts that may be taken out of so many things: halves, quarters and
+/// so on, down to single ones.
+pub fn parts(count: usize) -> Vec<std::ops::Range<usize>> {
+    let mut parts = Vec::new();
+    let mut size = count;
+    while size > 0 {
+        for start in (0..count).step_by(size) {
+            parts.push(start..count.min(start + size));
+        }
+        size /= 2;
+    }
+    parts
+}
+
+/// Tables with some records taken out; none if it is not a valid table.
+pub fn smaller_tables(table: &[u8]) -> Vec<Vec<u8>> {
+    let records = model::mapping::records(table).unwrap_or_default();
+    let without = |part: std::ops::Range<usize>| {
+        let mut left = Vec::new();
+        for (number, (place, _)) in records.iter().enumerate() {
+            if !part.contains(&number) {
+                left.extend_from_slice(&table[place.clone()]);
+            }
+        }
+        left
+    };
+    parts(records.len()).into_iter().map(without).collect()
+}

@@ -1,0 +1,229 @@
+//! Random cases.
+
+use crate::buffer::Buffer;
+use crate::lookup::LookupCase;
+use crate::replay::ReplayCase;
+use crate::run::{Moment, RunCase};
+use crate::step::StepCase;
+use bridge::{FlatContext, ROW};
+use generate::Rng;
+use model::{Context, Place, LOG_LIMIT, PROGRAM_CAPABILITY, PROGRAM_WIDTH, TABLE_LIMIT};
+
+/// Numbers near the bounds of what a place or an EPT state can be.
+pub const ODD_NUMBERS: [u64; 10] = [
+    2,
+    3,
+    4,
+    255,
+    256,
+    257,
+    1 << 32,
+    (1 << 32) + 1,
+    (1 << 32) + 2,
+    u64::MAX,
+];
+
+/// A context as numbers, with anything in the fields that are not looked at.
+pub fn flat(rng: &mut Rng, context: &Context) -> FlatContext {
+    let mut flat = FlatContext::from(context);
+    if rng.one_in(2) {
+        return flat;
+    }
+    let mut any = || {
+        let number = rng.number();
+        rng.pick(&[0, 1, 2, 5, 65_535, 65_536, 1 << 40, u64::MAX, number])
+    };
+    match context.place {
+        Place::Outside | Place::Root => {
+            flat.vpid = any();
+            flat.ept = any();
+            flat.ep4ta = any();
+        }
+        Place::Guest { ept: None, .. } => flat.ep4ta = any(),
+        Place::Guest { .. } => {}
+    }
+    flat
+}
+
+/// The same; now and then with a place or EPT number that stands for nothing.
+fn any_flat(rng: &mut Rng, context: &Context) -> FlatContext {
+    let mut flat = flat(rng, context);
+    match rng.below(80) {
+        0 => flat.place = rng.pick(&ODD_NUMBERS),
+        1 => {
+            flat.place = 2;
+            flat.ept = rng.pick(&ODD_NUMBERS);
+        }
+        _ => {}
+    }
+    flat
+}
+
+pub fn buffer(rng: &mut Rng, length: usize) -> Buffer {
+    Buffer {
+        length,
+        fill: rng.number(),
+    }
+}
+
+/// A step: valid, near-valid, damaged or random, aimed at any answer.
+pub fn step(rng: &mut Rng) -> StepCase {
+    let case = generate::case(rng);
+    StepCase {
+        context: any_flat(rng, &case.context),
+        table: case.table,
+        event: case.event,
+        new: buffer(rng, case.new.len()),
+    }
+}
+
+/// A lookup, mostly of an address that some record covers.
+pub fn lookup(rng: &mut Rng) -> LookupCase {
+    let query = generate::query(rng);
+    LookupCase {
+        context: any_flat(rng, &query.context),
+        table: query.table,
+        address: query.address,
+    }
+}
+
+/// Where a run or a log starts: mostly with the program's numbers.
+fn start(rng: &mut Rng) -> (u64, u64) {
+    match rng.below(6) {
+        0 => (generate::capability(rng), PROGRAM_WIDTH),
+        1 => (PROGRAM_CAPABILITY, 35 + rng.below(19) as u64),
+        _ => (PROGRAM_CAPABILITY, PROGRAM_WIDTH),
+    }
+}
+
+/// A run of so many events, with addresses to look up at some of them.
+pub fn run(rng: &mut Rng, count: usize) -> RunCase {
+    let (capability, width) = start(rng);
+    let events = generate::events(rng, count);
+    run_of(rng, capability, width, events, 8)
+}
+
+/// A run that fills the table to its last byte or nearly, and goes on for
+/// some hundreds of events.
+pub fn filling_run(rng: &mut Rng) -> RunCase {
+    let log = generate::filling_log(rng);
+    let mut rest = &log[..];
+    let mut events = Vec::new();
+    while let Some(event) = model::replay::first_event(rest) {
+        events.push(event.to_vec());
+        rest = &rest[event.len()..];
+    }
+    run_of(rng, PROGRAM_CAPABILITY, PROGRAM_WIDTH, events, 100)
+}
+
+fn run_of(
+    rng: &mut Rng,
+    capability: u64,
+    width: u64,
+    events: Vec<Vec<u8>>,
+    seldom: usize,
+) -> RunCase {
+    let mut buffers = [Buffer { length: 0, fill: 0 }; 4];
+    for lent in &mut buffers {
+        let more = rng.pick(&[0, 0, 1, 100]);
+        *lent = buffer(rng, TABLE_LIMIT + more);
+    }
+    let moments = events.into_iter().map(Some).chain([None]);
+    RunCase {
+        capability,
+        width,
+        buffers,
+        moments: moments.map(|event| moment(rng, event, seldom)).collect(),
+    }
+}
+
+fn moment(rng: &mut Rng, event: Option<Vec<u8>>, seldom: usize) -> Moment {
+    let count = if event.is_none() || rng.one_in(seldom) {
+        3
+    } else {
+        0
+    };
+    Moment {
+        removal: rng.number(),
+        addresses: (0..count).map(|_| generate::address(rng)).collect(),
+        event,
+    }
+}
+
+/// A replay of a log of at most so many bytes: mostly events that fit, some
+/// cut or damaged, some random bytes.
+pub fn replay(rng: &mut Rng, most: usize) -> ReplayCase {
+    let length = rng.below(most + 1);
+    let log = match rng.below(10) {
+        0 => rng.bytes(length % 100),
+        1 => any_events(rng, length / 20),
+        _ => generate::log(rng, length),
+    };
+    let (capability, width) = start(rng);
+    replay_of(rng, capability, width, log)
+}
+
+/// Events one after another, damaged ones too.
+fn any_events(rng: &mut Rng, count: usize) -> Vec<u8> {
+    generate::events(rng, count).concat()
+}
+
+/// A replay that fills the table; now and then longer than the program reads.
+pub fn filling_replay(rng: &mut Rng) -> ReplayCase {
+    let mut log = generate::filling_log(rng);
+    if rng.one_in(3) {
+        let more = LOG_LIMIT + 1 - log.len() + rng.below(500);
+        let more = generate::log(rng, more);
+        log.extend_from_slice(&more);
+    }
+    replay_of(rng, PROGRAM_CAPABILITY, PROGRAM_WIDTH, log)
+}
+
+fn replay_of(rng: &mut Rng, capability: u64, width: u64, log: Vec<u8>) -> ReplayCase {
+    let first = table_room(rng);
+    let second = table_room(rng);
+    let rows = rows_room(rng, &log);
+    ReplayCase {
+        capability,
+        width,
+        first: buffer(rng, first),
+        second: buffer(rng, second),
+        rows: buffer(rng, rows),
+        log,
+    }
+}
+
+/// The length of a buffer for a table: mostly enough.
+fn table_room(rng: &mut Rng) -> usize {
+    match rng.below(12) {
+        0 => 0,
+        1 => rng.below(100),
+        2 => rng.below(2_000),
+        3 => TABLE_LIMIT - 1,
+        4 => TABLE_LIMIT + 1,
+        5 => TABLE_LIMIT + 500,
+        _ => TABLE_LIMIT,
+    }
+}
+
+/// The length of a buffer for rows: none, short, exact, more.
+fn rows_room(rng: &mut Rng, log: &[u8]) -> usize {
+    let mut events = 0;
+    let mut rest = log;
+    while !rest.is_empty() {
+        events += 1;
+        let length = model::replay::first_event(rest).map_or(rest.len(), <[u8]>::len);
+        rest = &rest[length..];
+    }
+    let exact = ROW * events;
+    match rng.below(12) {
+        0 => 0,
+        1 => rng.below(2 * ROW),
+        2 => rng.below(exact + 1),
+        3 => exact.saturating_sub(1),
+        4 => exact + 1,
+        5 => exact + ROW,
+        6 => exact + 1_000,
+        _ => exact,
+    }
+}

@@ -1,0 +1,100 @@
+//! What the model says, in the library's form.
+
+use bridge::{FlatContext, FlatReplayed, FlatStep, Part, ROW};
+use model::{Address, Context};
+use std::mem::swap;
+use std::ops::Range;
+
+/// One step. A place or EPT number that stands for nothing is out of its
+/// range; a refusal hands back the context as it came.
+pub fn step(context: &FlatContext, table: &[u8], event: &[u8], new: &mut [u8]) -> FlatStep {
+    let refused = |answer| FlatStep {
+        answer,
+        context: *context,
+        length: 0,
+        dropped: 0,
+    };
+    let Some(known) = context.context() else {
+        return refused(1);
+    };
+    let step = model::step(&known, table, event, new);
+    if step.answer != 0 {
+        return refused(step.answer);
+    }
+    FlatStep {
+        answer: 0,
+        context: FlatContext::from(&step.context),
+        length: step.length,
+        dropped: step.dropped,
+    }
+}
+
+/// The answer to a lookup, and the places of all usable records.
+pub fn usable(context: &FlatContext, table: &[u8], address: Address) -> (u64, Vec<Range<usize>>) {
+    match context.context() {
+        None => (1, Vec::new()),
+        Some(known) => (
+            model::lookup::answer(&known, table),
+            model::usable(&known, table, address),
+        ),
+    }
+}
+
+/// The part for the k-th of these.
+pub fn part(answer: u64, usable: &[Range<usize>], k: u64) -> Part {
+    let place = usize::try_from(k).ok().and_then(|k| usable.get(k));
+    let (start, length) = place.map_or((0, 0), |place| (place.start, place.len()));
+    Part {
+        answer,
+        start,
+        length,
+    }
+}
+
+/// A whole log: the model's steps, through the two buffers in turn, as long
+/// as there is room for a row.
+pub fn replay(
+    capability: u64,
+    width: u64,
+    log: &[u8],
+    first: &mut [u8],
+    second: &mut [u8],
+    rows: &mut [u8],
+) -> FlatReplayed {
+    let (mut old, mut new) = (first, second);
+    let mut rows = rows.chunks_exact_mut(ROW);
+    let mut end = FlatReplayed {
+        context: FlatContext::from(&Context::after_reset(capability, width)),
+        length: 0,
+        first: 1,
+        count: 0,
+    };
+    let mut rest = log;
+    while !rest.is_empty() {
+        let Some(row) = rows.next() else {
+            break;
+        };
+        let known = model::replay::first_event(rest);
+        let event = known.unwrap_or(rest);
+        let step = step(&end.context, &old[..end.length], event, new);
+        if step.answer == 0 {
+            end.context = step.context;
+            end.length = step.length;
+            end.first = 1 - end.first;
+            swap(&mut old, &mut new);
+        }
+        end.count += 1;
+        write_row(row, &[step.answer, step.dropped as u64, end.length as u64]);
+        if known.is_none() || step.answer == 2 || step.answer == 3 {
+            break;
+        }
+        rest = &rest[event.len()..];
+    }
+    end
+}
+
+fn write_row(row: &mut [u8], numbers: &[u64; 3]) {
+    for (place, number) in row.chunks_exact_mut(8).zip(numbers) {
+        place.copy_from_slice(&number.to_le_bytes());
+    }
+}

@@ -1,0 +1,124 @@
+//! Whole logs: the library's replay against the model's.
+
+use crate::buffer::Buffer;
+use crate::case::parts;
+use crate::expected;
+use crate::step::{all_same, buffer, context_differences, difference};
+use crate::tally::Tally;
+use crate::text::{bytes, numbers};
+use bridge::{lines, FlatReplayed, ROW};
+use model::{LOG_LIMIT, PROGRAM_CAPABILITY, PROGRAM_WIDTH, TABLE_LIMIT};
+use std::fmt;
+
+/// The inputs of a replay.
+#[derive(Clone, Debug, PartialEq, Eq)]
+pub struct ReplayCase {
+    pub capability: u64,
+    pub width: u64,
+    pub log: Vec<u8>,
+    pub first: Buffer,
+    pub second: Buffer,
+    pub rows: Buffer,
+}
+
+impl ReplayCase {
+    pub fn check(&self, tally: &mut Tally) -> Result<(), String> {
+        let lend = || [self.first.lend(), self.second.lend(), self.rows.lend()];
+        let (mut ours, mut theirs) = (lend(), lend());
+        let log = self.log.clone();
+        let (capability, width) = (self.capability, self.width);
+        let [a, b, rows] = &mut theirs;
+        let due = expected::replay(
+            capability,
+            width,
+            &self.log,
+            a.part_mut(),
+            b.part_mut(),
+            rows.part_mut(),
+        );
+        let [a, b, rows] = &mut ours;
+        let got = bridge::replay_flat(
+            capability,
+            width,
+            &log,
+            a.part_mut(),
+            b.part_mut(),
+            rows.part_mut(),
+        );
+        // The rows first: they say which event went wrong.
+        ours[2].same(&theirs[2], "rows")?;
+        same_end(&got, &due)?;
+        ours[0].same(&theirs[0], "first buffer")?;
+        ours[1].same(&theirs[1], "second buffer")?;
+        if log != self.log {
+            return Err("the log was written to".to_string());
+        }
+        let rows = lines(&ours[2].part()[..ROW * due.count]);
+        if self.is_the_programs() {
+            // With too few rows the program's first lines.
+            let all = model::replay(&log).unwrap_or_default();
+            let room = all.len().min(self.rows.length / ROW);
+            if all[..room] != rows {
+                return Err("the rows are not the model's lines".to_string());
+            }
+        }
+        for row in &rows {
+            tally.rows[row.answer as usize] += 1;
+        }
+        tally.replays += 1;
+        Ok(())
+    }
+
+    /// What the replay program would do with this log.
+    fn is_the_programs(&self) -> bool {
+        self.capability == PROGRAM_CAPABILITY
+            && self.width == PROGRAM_WIDTH
+            && self.log.len() <= LOG_LIMIT
+            && self.first.length >= TABLE_LIMIT
+            && self.second.length >= TABLE_LIMIT
+    }
+
+    pub fn smaller(&self) -> Vec<ReplayCase> {
+        let starts = starts(&self.log);
+        let without = |part: std::ops::Range<usize>| {
+            let mut log = self.log.clone();
+            log.drain(starts[part.start]..starts[part.end]);
+            ReplayCase {
+                log,
+                ..self.clone()
+            }
+        };
+        parts(starts.len() - 1).into_iter().map(without).collect()
+    }
+}
+
+/// Compares what two replays report.
+fn same_end(got: &FlatReplayed, due: &FlatReplayed) -> Result<(), String> {
+    let mut differences = context_differences(&got.context, &due.context);
+    differences.extend(difference("length", got.length as u64, due.length as u64));
+    differences.extend(difference("first", got.first, due.first));
+    differences.extend(difference("count", got.count as u64, due.count as u64));
+    all_same(differences)
+}
+
+/// Where the events of a log start, and its end.
+fn starts(log: &[u8]) -> Vec<usize> {
+    let mut starts = vec![0];
+    let mut at = 0;
+    while at < log.len() {
+        at += model::replay::first_event(&log[at..]).map_or(log.len() - at, <[u8]>::len);
+        starts.push(at);
+    }
+    starts
+}
+
+impl fmt::Display for ReplayCase {
+    fn fmt(&self, f: &mut fmt::Formatter) -> fmt::Result {
+        writeln!(f, "case replay")?;
+        writeln!(f, "{}", numbers("start", &[self.capability, self.width]))?;
+        writeln!(f, "{}", bytes("log", &self.log))?;
+        writeln!(f, "{}", buffer("first", &self.first))?;
+        writeln!(f, "{}", buffer("second", &self.second))?;
+        write!(f, "{}", buffer("rows", &self.rows))
+    }
+}

@@ -1,0 +1,268 @@
+//! Cases near the bounds, all of them for one context and table.
+
+use crate::draw::{buffer, flat, ODD_NUMBERS};
+use crate::lookup::LookupCase;
+use crate::replay::ReplayCase;
+use crate::step::StepCase;
+use bridge::{FlatContext, ROW};
+use generate::{Rng, KINDS};
+use model::{Address, Context, Place, PROGRAM_CAPABILITY, PROGRAM_WIDTH, TABLE_LIMIT};
+
+/// The capability bits that document 01 reads.
+const BITS: [u32; 12] = [6, 8, 14, 20, 21, 25, 26, 32, 40, 41, 42, 43];
+
+/// The page numbers end here.
+const PAGES: u64 = 1 << 36;
+
+fn step(rng: &mut Rng, context: FlatContext, table: &[u8], event: &[u8]) -> StepCase {
+    let more = rng.below(64);
+    StepCase {
+        context,
+        table: table.to_vec(),
+        event: event.to_vec(),
+        new: buffer(rng, table.len() + event.len() + more),
+    }
+}
+
+/// Every event one field away from a valid one of each kind, and every
+/// mapping record so changed as a part of the table.
+pub fn near_events(rng: &mut Rng) -> Vec<StepCase> {
+    let context = generate::context(rng);
+    let count = rng.below(6);
+    let table = generate::table(rng, &context, count);
+    let mut cases = Vec::new();
+    for kind in KINDS {
+        let event = generate::event_of_kind(rng, &context, kind);
+        for near in generate::near_events(&event) {
+            let context = flat(rng, &context);
+            cases.push(step(rng, context, &table, &near));
+            if kind <= 6 {
+                let event = generate::event(rng, &Context::program());
+                cases.push(step(rng, context, &[&near, &table[..]].concat(), &event));
+                cases.push(step(rng, context, &[&table[..], &near].concat(), &[25]));
+            }
+        }
+    }
+    cases
+}
+
+/// Every context one field away from a valid one, those that stand for
+/// nothing included, with an event of each kind.
+pub fn near_contexts(rng: &mut Rng) -> Vec<StepCase> {
+    let context = generate::context(rng);
+    let count = rng.below(6);
+    let table = generate::table(rng, &context, count);
+    let near = generate::near_contexts(&context);
+    let mut contexts: Vec<FlatContext> = near.iter().map(|near| flat(rng, near)).collect();
+    for place in 0..3 {
+        for ept in [0, 1].into_iter().chain(ODD_NUMBERS) {
+            contexts.push(numbered(&context, place, ept));
+        }
+    }
+    for place in ODD_NUMBERS {
+        contexts.push(numbered(&context, place, 0));
+        contexts.push(numbered(&context, place, 1));
+    }
+    let mut cases = Vec::new();
+    for near in contexts {
+        for kind in KINDS {
+            let event = generate::event_of_kind(rng, &context, kind);
+            cases.push(step(rng, near, &table, &event));
+        }
+    }
+    cases
+}
+
+fn numbered(context: &Context, place: u64, ept: u64) -> FlatContext {
+    FlatContext {
+        place,
+        ept,
+        vpid: 5,
+        ep4ta: 0x123_4567,
+        ..FlatContext::from(context)
+    }
+}
+
+/// Every kind in every place, at CPL 0, 1 and 3, with all capability bits,
+/// none, and one missing or alone.
+pub fn matrix(rng: &mut Rng) -> Vec<StepCase> {
+    let mut capabilities = vec![PROGRAM_CAPABILITY, 0, u64::MAX];
+    for bit in BITS {
+        capabilities.push(PROGRAM_CAPABILITY & !(1 << bit));
+        capabilities.push(1 << bit);
+    }
+    let guest = |vpid, ept| Place::Guest { vpid, ept };
+    let ept = Some(0x123_4567);
+    let places = [
+        Place::Outside,
+        Place::Root,
+        guest(0, None),
+        guest(5, None),
+        guest(0, ept),
+        guest(5, ept),
+    ];
+    let mut cases = Vec::new();
+    for place in places {
+        for cpl in [0, 1, 3] {
+            for capability in &capabilities {
+                let context = Context {
+                    capability: *capability,
+                    cpl,
+                    place,
+                    ..generate::context(rng)
+                };
+                let table = generate::table(rng, &context, 3);
+                for kind in KINDS {
+                    let event = generate::event_of_kind(rng, &context, kind);
+                    let context = flat(rng, &context);
+                    cases.push(step(rng, context, &table, &event));
+                }
+            }
+        }
+    }
+    cases
+}
+
+/// One event on one table with new buffers of many lengths. Now and then the
+/// table is near the limit.
+pub fn rooms(rng: &mut Rng) -> Vec<StepCase> {
+    let context = Context {
+        capability: PROGRAM_CAPABILITY,
+        width: PROGRAM_WIDTH,
+        ..generate::context(rng)
+    };
+    let table = if rng.one_in(6) {
+        let free = rng.pick(&[0, 1, 15, 16, 17, 20, 21, 22, 23]);
+        generate::full_table(rng, &context, TABLE_LIMIT - free)
+    } else {
+        let count = rng.below(9);
+        generate::table(rng, &context, count)
+    };
+    let (event, _) = generate::fitting(rng, &context);
+    let context = flat(rng, &context);
+    let needed = table.len() + event.len();
+    let mut lengths = vec![0, 1, 15, 16, 17, table.len(), table.len() + 1];
+    lengths.extend([
+        table.len().saturating_sub(1),
+        needed - 1,
+        needed,
+        needed + 1,
+    ]);
+    lengths.extend([TABLE_LIMIT - 1, TABLE_LIMIT, TABLE_LIMIT + 1]);
+    lengths.extend([TABLE_LIMIT + 22, 2 * TABLE_LIMIT]);
+    let with = |length| StepCase {
+        context,
+        table: table.clone(),
+        event: event.clone(),
+        new: buffer(rng, length),
+    };
+    lengths.into_iter().map(with).collect()
+}
+
+/// Addresses one byte inside and outside of each end of each record.
+fn edges(table: &[u8]) -> Vec<u64> {
+    let mut edges = Vec::new();
+    for (_, mapping) in model::mapping::records(table).unwrap_or_default() {
+        let start = mapping.page << 12;
+        let end = (mapping.page + (1 << (9 * mapping.span))) << 12;
+        edges.extend([start.wrapping_sub(1), start, end - 1, end]);
+    }
+    edges
+}
+
+/// The address with bits 63 to 48 like bit 47.
+fn canonical(address: u64) -> u64 {
+    (((address << 16) as i64) >> 16) as u64
+}
+
+/// Events with an address, at the ends of each record.
+pub fn edge_events(rng: &mut Rng) -> Vec<StepCase> {
+    let context = Context {
+        cpl: 0,
+        capability: PROGRAM_CAPABILITY,
+        ..generate::context(rng)
+    };
+    let table = generate::table(rng, &context, 6);
+    let records = model::mapping::records(&table).unwrap_or_default();
+    let vpids: Vec<u64> = records.iter().filter_map(|(_, m)| m.vpid).collect();
+    let mut cases = Vec::new();
+    for edge in edges(&table) {
+        let linear = canonical(edge).to_le_bytes();
+        let vpid = vpids.first().map_or(5, |_| rng.pick(&vpids)).to_le_bytes();
+        let invvpid = [&[16], &[0; 8][..], &vpid, &linear].concat();
+        let invlpg = [&[18], &linear[..]].concat();
+        let guest_physical = (edge % (PAGES << 12)).to_le_bytes();
+        let violation = [&[19], &guest_physical[..], &[1], &linear].concat();
+        let root = Context {
+            place: Place::Root,
+            ..context
+        };
+        let context = flat(rng, &context);
+        let root = flat(rng, &root);
+        cases.push(step(rng, root, &table, &invvpid));
+        cases.push(step(rng, root, &table, &invlpg));
+        cases.push(step(rng, context, &table, &invlpg));
+        cases.push(step(rng, context, &table, &violation));
+    }
+    cases
+}
+
+/// Lookups of both sorts at the ends of each record and of all addresses.
+pub fn edge_lookups(rng: &mut Rng) -> Vec<LookupCase> {
+    let context = generate::context(rng);
+    let count = rng.below(9);
+    let table = generate::table(rng, &context, count);
+    let mut addresses = edges(&table);
+    for bit in [12, 47, 48, 63] {
+        addresses.extend([(1 << bit) - 1, 1 << bit]);
+    }
+    addresses.extend([0, u64::MAX, 0xFFFF_7FFF_FFFF_FFFF, 0xFFFF_8000_0000_0000]);
+    let mut cases = Vec::new();
+    for number in addresses {
+        for address in [
+            Address::Linear(canonical(number)),
+            Address::Linear(number),
+            Address::GuestPhysical(number),
+        ] {
+            cases.push(LookupCase {
+                context: flat(rng, &context),
+                table: table.clone(),
+                address,
+            });
+        }
+    }
+    cases
+}
+
+/// Lookups in every context near a valid one.
+pub fn near_lookups(rng: &mut Rng) -> Vec<LookupCase> {
+    let context = generate::context(rng);
+    let table = generate::any_table(rng, &context);
+    let near = generate::near_contexts(&context);
+    let mut contexts: Vec<FlatContext> = near.iter().map(|near| flat(rng, near)).collect();
+    for odd in ODD_NUMBERS {
+        contexts.push(numbered(&context, odd, 0));
+        contexts.push(numbered(&context, 2, odd));
+    }
+    let with = |context| LookupCase {
+        context,
+        table: table.clone(),
+        address: generate::address(rng),
+    };
+    contexts.into_iter().map(with).collect()
+}
+
+/// A short log cut after each of its bytes.
+pub fn cut_logs(rng: &mut Rng) -> Vec<ReplayCase> {
+    let length = rng.below(200);
+    let log = generate::log(rng, length);
+    let with = |cut: usize| ReplayCase {
+        capability: PROGRAM_CAPABILITY,
+        width: PROGRAM_WIDTH,
+        log: log[..cut].to_vec(),
+        first: buffer(rng, 400),
+        second: buffer(rng, 400),
+        rows: buffer(rng, ROW * cut),
+    };
+    (0..=log.len()).map(with).collect()
+}

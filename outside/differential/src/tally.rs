@@ -1,0 +1,85 @@
+//! How often what was reached.
+
+use std::fmt;
+
+/// Counts over all that was compared.
+#[derive(Clone, Debug, Default)]
+pub struct Tally {
+    /// Single steps by their answer.
+    pub steps: [u64; 13],
+    /// Steps of runs by their answer.
+    pub run_steps: [u64; 13],
+    /// Rows of replays by their answer.
+    pub rows: [u64; 13],
+    /// Lookups by their answer.
+    pub lookups: [u64; 4],
+    /// Lookups that found a record.
+    pub found: u64,
+    /// Accepted events by their kind.
+    pub accepted: [u64; 26],
+    /// Accepted events that dropped something.
+    pub dropping: u64,
+    /// Records dropped.
+    pub dropped: u64,
+    pub runs: u64,
+    pub replays: u64,
+}
+
+impl Tally {
+    /// The kind of an accepted event and the records it dropped.
+    pub fn accept(&mut self, event: &[u8], dropped: usize) {
+        if let Some(count) = event.first().and_then(|kind| {
+            let kind = usize::from(*kind);
+            self.accepted.get_mut(kind)
+        }) {
+            *count += 1;
+        }
+        self.dropping += u64::from(dropped > 0);
+        self.dropped += dropped as u64;
+    }
+
+    /// Calls of the library that were compared; a replay counts its rows.
+    pub fn calls(&self) -> u64 {
+        let all = [&self.steps, &self.run_steps, &self.rows];
+        let lookups: u64 = self.lookups.iter().sum();
+        lookups + all.iter().flat_map(|counts| counts.iter()).sum::<u64>()
+    }
+
+    /// How often an answer was given by a step, alone or in a run.
+    pub fn reached(&self, answer: usize) -> u64 {
+        self.steps[answer] + self.run_steps[answer] + self.rows[answer]
+    }
+}
+
+impl fmt::Display for Tally {
+    fn fmt(&self, f: &mut fmt::Formatter) -> fmt::Result {
+        writeln!(
+            f,
+            "{:<8}{:>12}{:>12}{:>12}{:>12}",
+            "answer", "steps", "in runs", "in replays", "lookups"
+        )?;
+        for answer in 0..13 {
+            write!(
+                f,
+                "{:<8}{:>12}{:>12}{:>12}",
+                answer, self.steps[answer], self.run_steps[answer], self.rows[answer]
+            )?;
+            match self.lookups.get(answer) {
+                Some(count) => writeln!(f, "{count:>12}")?,
+                None => writeln!(f)?,
+            }
+        }
+        let kinds = self.accepted.iter().enumerate();
+        let kinds: Vec<String> = kinds
+            .filter(|(_, count)| **count > 0)
+            .map(|(kind, count)| format!("{kind}: {count}"))
+            .collect();
+        writeln!(f, "accepted by kind: {}", kinds.join(", "))?;
+        writeln!(
+            f,
+            "{} events dropped {} records; {} lookups found one; {} runs, {} replays",
+            self.dropping, self.dropped, self.found, self.runs, self.replays
+        )?;
+        write!(f, "{} answers compared", self.calls())
+    }
+}

@@ -1,0 +1,75 @@
+//! The generator reaches every answer often, and gives the same each time.
+
+use generate::{case, event_length, events, filling_log, log, query, Rng, KINDS};
+use model::{lookup, step, LOG_LIMIT};
+
+const SEED: u64 = 7;
+
+#[test]
+fn every_answer_is_reached() {
+    println!("seed {SEED}");
+    let mut rng = Rng::new(SEED);
+    let mut reached = [0; 13];
+    let mut kinds_accepted = [0; 26];
+    let mut dropping = 0;
+    for _ in 0..20_000 {
+        let mut case = case(&mut rng);
+        let step = step(&case.context, &case.table, &case.event, &mut case.new);
+        reached[step.answer as usize] += 1;
+        if step.answer == 0 {
+            kinds_accepted[usize::from(case.event[0])] += 1;
+            dropping += usize::from(step.dropped > 0);
+        }
+    }
+    println!("answers reached: {reached:?}");
+    println!("kinds accepted: {kinds_accepted:?}");
+    println!("with a drop: {dropping}");
+    assert!(reached.iter().all(|count| *count >= 300));
+    for kind in KINDS {
+        assert!(kinds_accepted[usize::from(kind)] >= 30, "kind {kind}");
+    }
+    assert!(dropping >= 500);
+}
+
+#[test]
+fn lookups_find() {
+    let mut rng = Rng::new(SEED);
+    let mut reached = [0; 4];
+    let mut found = 0;
+    for _ in 0..20_000 {
+        let query = query(&mut rng);
+        let (answer, place) = lookup(&query.context, &query.table, query.address, query.k);
+        reached[answer as usize] += 1;
+        found += usize::from(place.is_some());
+    }
+    println!("answers {reached:?}, found {found}");
+    assert!(reached.iter().all(|count| *count >= 100));
+    assert!(found >= 1_000);
+}
+
+#[test]
+fn the_same_seed_gives_the_same() {
+    for seed in 0..20 {
+        let (mut one, mut two) = (Rng::new(seed), Rng::new(seed));
+        assert_eq!(format!("{}", case(&mut one)), format!("{}", case(&mut two)));
+        assert_eq!(events(&mut one, 50), events(&mut two, 50));
+        assert_eq!(log(&mut one, 500), log(&mut two, 500));
+    }
+    assert_ne!(Rng::new(0).number(), Rng::new(1).number());
+}
+
+#[test]
+fn lengths_agree_with_the_model() {
+    for kind in 0..=255 {
+        assert_eq!(event_length(kind), model::event::length(kind));
+    }
+}
+
+#[test]
+fn filling_logs_stay_within_the_limit() {
+    let mut rng = Rng::new(SEED);
+    for _ in 0..10 {
+        let log = filling_log(&mut rng);
+        assert!(log.len() <= LOG_LIMIT && log.len() > LOG_LIMIT - 25);
+    }
+}

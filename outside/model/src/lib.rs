@@ -1,0 +1,55 @@
+//! The independent model: document 01 in plain Rust.
+//!
+//! Written from the papers (documents/01-scope.md and its sources) and from
+//! nothing else, so that it can be compared with the proved model. It is
+//! meant to be read beside document 01: each file is one of its sections.
+//!
+//! * [`context`]: the context and its ranges.
+//! * [`mapping`]: mapping records and tables.
+//! * [`event`]: events, and the context after one.
+//! * [`judge`]: the numbered answers.
+//! * [`scope`]: the required scopes.
+//! * [`step()`], [`lookup()`], [`replay()`]: what the model does.
+//! * [`book`]: a whole run judged from its events alone.
+//! * [`tuned`]: the same step, written for speed.
+
+pub mod book;
+mod bytes;
+pub mod context;
+pub mod event;
+pub mod judge;
+pub mod lookup;
+pub mod mapping;
+pub mod replay;
+pub mod scope;
+pub mod step;
+pub mod tuned;
+
+pub use context::{Context, Place};
+pub use lookup::{lookup, usable, Address};
+pub use replay::{print, replay, Line};
+pub use step::{step, Step};
+
+/// The longest table, in bytes.
+pub const TABLE_LIMIT: usize = 45_056;
+
+/// The longest log that the replay program reads, in bytes.
+pub const LOG_LIMIT: usize = 65_536;
+
+/// The replay program's IA32_VMX_EPT_VPID_CAP: bits 6, 8, 14, 20, 21, 25, 26,
+/// 32 and 40 to 43.
+pub const PROGRAM_CAPABILITY: u64 = 1 << 6
+    | 1 << 8
+    | 1 << 14
+    | 1 << 20
+    | 1 << 21
+    | 1 << 25
+    | 1 << 26
+    | 1 << 32
+    | 1 << 40
+    | 1 << 41
+    | 1 << 42
+    | 1 << 43;
+
+/// The replay program's physical width N.
+pub const PROGRAM_WIDTH: u64 = 52;

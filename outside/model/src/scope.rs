@@ -1,0 +1,79 @@
+//! The required scopes.
+
+use crate::context::Context;
+use crate::event::{canonical, ep4ta, page, Event};
+use crate::mapping::Mapping;
+
+/// Whether a mapping is in the required scope of an accepted event, judged
+/// in the context before that event.
+pub fn in_scope(context: &Context, event: &Event, mapping: &Mapping) -> bool {
+    match *event {
+        Event::Creation(_) | Event::Vmxon | Event::Vmxoff | Event::Switch { .. } => false,
+        Event::Reset => true,
+        Event::Invvpid { kind, low, high } => invvpid(kind, low & 0xFFFF, high, mapping),
+        Event::Invept { kind, low, .. } => invept(kind, low, mapping),
+        Event::Invlpg { address } => invlpg(context, address, mapping),
+        Event::EptViolation {
+            guest_physical,
+            linear,
+        } => violation(context, guest_physical, linear, mapping),
+        Event::Entry { vpid, .. } => vpid.is_none() && mapping.vpid == Some(0),
+        Event::Exit { .. } => context.vpid() == 0 && mapping.vpid == Some(0),
+    }
+}
+
+/// Kinds 1, 3, 4, 6 only: those that have a VPID.
+fn invvpid(kind: u64, vpid: u64, address: u64, mapping: &Mapping) -> bool {
+    let Some(own) = mapping.vpid else {
+        return false;
+    };
+    match kind {
+        0 => own == vpid && mapping.covers(page(address)),
+        1 => own == vpid,
+        2 => own != 0,
+        3 => own == vpid && !mapping.global,
+        _ => false,
+    }
+}
+
+/// Kinds 2, 3, 5, 6 only: those that have an EP4TA.
+fn invept(kind: u64, eptp: u64, mapping: &Mapping) -> bool {
+    let Some(own) = mapping.ep4ta else {
+        return false;
+    };
+    match kind {
+        1 => own == ep4ta(eptp),
+        2 => true,
+        _ => false,
+    }
+}
+
+/// Kinds 1, 3, 4, 6 of the current VPID, with any EP4TA or none.
+fn invlpg(context: &Context, address: u64, mapping: &Mapping) -> bool {
+    canonical(address)
+        && mapping.vpid == Some(context.vpid())
+        && (mapping.pcid == Some(context.pcid) || mapping.global)
+        && mapping.covers(page(address))
+}
+
+/// Kinds 2 and 5 by the guest-physical page; kinds 3 and 6 by the linear
+/// page, if there is one. A global mark does not stand in for the PCID.
+fn violation(
+    context: &Context,
+    guest_physical: u64,
+    linear: Option<u64>,
+    mapping: &Mapping,
+) -> bool {
+    let Some(current) = context.ep4ta() else {
+        return false;
+    };
+    if mapping.ep4ta != Some(current) {
+        return false;
+    }
+    if mapping.vpid.is_none() {
+        return mapping.covers(page(guest_physical));
+    }
+    mapping.vpid == Some(context.vpid())
+        && mapping.pcid == Some(context.pcid)
+        && linear.is_some_and(|address| mapping.covers(page(address)))
+}

@@ -1,0 +1,248 @@
+//! The plain step against the tuned one and the book, on random inputs. A
+//! failure prints the seed and the case.
+
+use generate::{case, events, filling_log, hex, log, query, removal, Rng};
+use model::book::Book;
+use model::{lookup, replay, step, tuned, usable, Address, Context, Line, TABLE_LIMIT};
+use model::{PROGRAM_CAPABILITY, PROGRAM_WIDTH};
+
+const SEED: u64 = 20_260_101;
+
+#[test]
+fn steps() {
+    println!("seed {SEED}");
+    let mut rng = Rng::new(SEED);
+    let mut reached = [0; 13];
+    for number in 0..100_000 {
+        let case = case(&mut rng);
+        let mut plain = case.new.clone();
+        let mut fast = case.new.clone();
+        let expected = step(&case.context, &case.table, &case.event, &mut plain);
+        let got = tuned::step(&case.context, &case.table, &case.event, &mut fast);
+        let same = expected == got && plain == fast;
+        assert!(
+            same,
+            "seed {SEED}, case {number}\n{case}\n{expected:?}\n{got:?}"
+        );
+        let touched = if expected.answer == 0 {
+            expected.length
+        } else {
+            0
+        };
+        assert_eq!(plain[touched..], case.new[touched..], "{case}");
+        reached[expected.answer as usize] += 1;
+    }
+    println!("answers reached: {reached:?}");
+    assert!(reached.iter().all(|count| *count > 1_000));
+}
+
+#[test]
+fn lookups() {
+    println!("seed {SEED}");
+    let mut rng = Rng::new(SEED);
+    let mut found = 0;
+    for number in 0..50_000 {
+        let query = query(&mut rng);
+        let expected = lookup(&query.context, &query.table, query.address, query.k);
+        let got = tuned::lookup(&query.context, &query.table, query.address, query.k);
+        assert_eq!(expected, got, "seed {SEED}, query {number}\n{query}");
+        found += usize::from(expected.1.is_some());
+    }
+    println!("found: {found}");
+    assert!(found > 1_000);
+}
+
+#[test]
+fn near_events_all() {
+    // Every event one field away from a valid one, in a few contexts.
+    let mut rng = Rng::new(SEED);
+    let mut new = vec![0; 500];
+    let mut other = new.clone();
+    for _ in 0..40 {
+        let context = generate::context(&mut rng);
+        let table = generate::table(&mut rng, &context, 5);
+        for kind in generate::KINDS {
+            let event = generate::event_of_kind(&mut rng, &context, kind);
+            for near in generate::near_events(&event) {
+                let expected = step(&context, &table, &near, &mut new);
+                let got = tuned::step(&context, &table, &near, &mut other);
+                assert_eq!(expected, got, "{context:x?}\n{}", hex(&near));
+                assert_eq!(new, other);
+            }
+            // The same bytes as a table, for mapping records.
+            for near in generate::near_events(&event) {
+                let expected = step(&context, &near, &[25], &mut new);
+                let got = tuned::step(&context, &near, &[25], &mut other);
+                assert_eq!(expected, got, "{context:x?}\n{}", hex(&near));
+            }
+        }
+        for near in generate::near_contexts(&context) {
+            let expected = step(&near, &table, &[25], &mut new);
+            assert_eq!(expected, tuned::step(&near, &table, &[25], &mut other));
+            assert_eq!(expected.answer, if near.in_range() { 0 } else { 1 });
+        }
+    }
+}
+
+/// One run of the plain step: the context and the table in force.
+struct Run {
+    context: Context,
+    table: Vec<u8>,
+}
+
+impl Run {
+    fn new(capability: u64, width: u64) -> Run {
+        Run {
+            context: Context::after_reset(capability, width),
+            table: Vec::new(),
+        }
+    }
+
+    /// Answer and dropped count of one event.
+    fn feed(&mut self, event: &[u8], room: usize) -> (u64, usize) {
+        let mut new = vec![0; room];
+        let step = step(&self.context, &self.table, event, &mut new);
+        if step.answer == 0 {
+            new.truncate(step.length);
+            self.table = new;
+        }
+        self.context = step.context;
+        (step.answer, step.dropped)
+    }
+}
+
+fn start(rng: &mut Rng) -> (u64, u64) {
+    match rng.below(6) {
+        0 => (generate::capability(rng), PROGRAM_WIDTH),
+        1 => (PROGRAM_CAPABILITY, 35 + rng.below(19) as u64),
+        _ => (PROGRAM_CAPABILITY, PROGRAM_WIDTH),
+    }
+}
+
+#[test]
+fn runs_against_the_book() {
+    println!("seed {SEED}");
+    let mut rng = Rng::new(SEED);
+    let mut dropped = 0;
+    for number in 0..60 {
+        let (capability, width) = start(&mut rng);
+        let mut run = Run::new(capability, width);
+        let mut book = Book::new(capability, width);
+        for event in events(&mut rng, 250) {
+            let room = TABLE_LIMIT + rng.below(3);
+            let got = run.feed(&event, room);
+            let verdict = book.feed(&event);
+            let shown = || format!("seed {SEED}, run {number}: {}", hex(&event));
+            assert_eq!(got, (verdict.answer, verdict.dropped), "{}", shown());
+            assert_eq!(&run.context, book.context(), "{}", shown());
+            assert_eq!(run.table, book.table(), "{}", shown());
+            assert_eq!(book.standing(), book.standing_by_notes(), "{}", shown());
+            dropped += got.1;
+        }
+    }
+    println!("dropped: {dropped}");
+    assert!(dropped > 500);
+}
+
+#[test]
+fn second_runs() {
+    println!("seed {SEED}");
+    let mut rng = Rng::new(SEED);
+    for number in 0..60 {
+        let (capability, width) = start(&mut rng);
+        let mut first = Run::new(capability, width);
+        let mut second = Run::new(capability, width);
+        for event in events(&mut rng, 200) {
+            let addresses: Vec<Address> = (0..4).map(|_| generate::address(&mut rng)).collect();
+            in_order_parts(&first, &second, &addresses);
+            second.table = removal(&mut rng, &second.table);
+            in_order_parts(&first, &second, &addresses);
+            let (answer, _) = first.feed(&event, TABLE_LIMIT);
+            let (other, _) = second.feed(&event, TABLE_LIMIT);
+            let shown = || format!("seed {SEED}, run {number}: {}", hex(&event));
+            assert_ne!(answer, 12, "{}", shown());
+            assert_eq!(answer, other, "{}", shown());
+            assert_eq!(first.context, second.context, "{}", shown());
+            in_order_parts(&first, &second, &addresses);
+        }
+    }
+}
+
+/// The second run's usable records are an in-order part of the first's.
+fn in_order_parts(first: &Run, second: &Run, addresses: &[Address]) {
+    for address in addresses {
+        let all = parts(first, *address);
+        let mut rest = all.iter();
+        for record in parts(second, *address) {
+            assert!(rest.any(|own| *own == record));
+        }
+    }
+}
+
+fn parts(run: &Run, address: Address) -> Vec<&[u8]> {
+    usable(&run.context, &run.table, address)
+        .into_iter()
+        .map(|place| &run.table[place])
+        .collect()
+}
+
+fn tuned_replay(log: &[u8]) -> Option<Vec<Line>> {
+    let (mut old, mut new) = (vec![0; TABLE_LIMIT], vec![0; TABLE_LIMIT]);
+    let mut lines = Vec::new();
+    tuned::replay(log, &mut old, &mut new, |line| lines.push(line)).then_some(lines)
+}
+
+/// The lines by the book: a third way to the same output.
+fn book_replay(log: &[u8]) -> Vec<Line> {
+    let mut book = Book::new(PROGRAM_CAPABILITY, PROGRAM_WIDTH);
+    let mut lines = Vec::new();
+    let mut rest = log;
+    while !rest.is_empty() {
+        let event = model::replay::first_event(rest);
+        let verdict = book.feed(event.unwrap_or(rest));
+        lines.push(Line {
+            number: lines.len() as u64 + 1,
+            answer: verdict.answer,
+            dropped: verdict.dropped,
+            length: book.table().len(),
+        });
+        match event {
+            Some(event) => rest = &rest[event.len()..],
+            None => break,
+        }
+    }
+    lines
+}
+
+#[test]
+fn logs() {
+    println!("seed {SEED}");
+    let mut rng = Rng::new(SEED);
+    for number in 0..300 {
+        let length = rng.below(3_000);
+        let log = log(&mut rng, length);
+        let expected = replay(&log);
+        let shown = || format!("seed {SEED}, log {number}: {}", hex(&log));
+        assert_eq!(expected, tuned_replay(&log), "{}", shown());
+        assert_eq!(expected, Some(book_replay(&log)), "{}", shown());
+    }
+}
+
+#[test]
+fn filling_logs() {
+    println!("seed {SEED}");
+    let mut rng = Rng::new(SEED);
+    for number in 0..6 {
+        let log = filling_log(&mut rng);
+        let lines = tuned_replay(&log).unwrap();
+        assert!(lines.iter().any(|line| line.answer == 12));
+        assert!(lines
+            .iter()
+            .any(|line| line.length == TABLE_LIMIT || line.length > TABLE_LIMIT - 17));
+        // The plain model takes its time; one such log is enough.
+        if number == 0 {
+            assert_eq!(replay(&log), Some(lines.clone()), "seed {SEED}");
+            assert_eq!(book_replay(&log), lines, "seed {SEED}");
+        }
+    }
+}
