@@ -3,7 +3,7 @@
  * under VMX, for programs in C.
  *
  * Link with libskuldrefn.a (x86-64 Linux), which `rt staticlib skuldrefn`
- * writes to target/staticlib/. It needs no other library.
+ * writes to target/staticlib/. Besides it only the C library is needed.
  *
  * Ownership. Every buffer is the caller's. A function reads and writes it
  * during the call only, within the length that comes with it, and keeps

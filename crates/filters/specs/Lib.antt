@@ -1,3 +1,4 @@
 pub mod Kept
 pub mod Walk
 pub mod Sweep
+pub mod Whole

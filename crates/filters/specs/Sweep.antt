@@ -150,7 +150,7 @@ module _ (c : Context) (e : Event) where
         rw (copied-front, length-append front (drop (at - from) (drop to new)), s .tail, drop-drop (at - from) to buffer, length-drop (to + (at - from)) buffer, length-front)
         (omega (arith, s .behind, s .run, s .inside, s .room))
 
-    -- the record at the position is dropped: the run is (copied t at from to new), and the next one starts behind it
+    -- the record at the position is dropped: the run is copied, and the next one starts behind it
     pub sweep-drop : (next : Next (drop at t)) → scope c e (mapping (drop at t)) ≡ true
         → Sweep t buffer (at + suc (next .less)) (at + suc (next .less)) (to + (at - from)) (dropped + 1) (copied t at from to new)
     unfolding front
@@ -173,7 +173,7 @@ module _ (c : Context) (e : Event) where
               rw (← (drop-drop (suc n) at t)) (omega (arith, s .number, gone-drop (drop at t) n (next .starts) inside));
         }
 
-    -- the walk is at the end: the last run is (copied t at from to new), and all is told
+    -- the walk is at the end: the last run is copied, and all is told
     pub sweep-end : length t ≤ at → Keeps c e t buffer (to + (at - from)) dropped (copied t at from to new)
     unfolding front gone overwritten
     sweep-end done =

@@ -5,7 +5,7 @@ ghost use mathlib.Core.Path.{_≡_};
 ghost use mathlib.Core.Bool.{true};
 ghost use Prim.Native.Nat.{_+_, _-_, _≤_};
 ghost use lib.ListN.{length};
-ghost use Rattle.model.specs.Tables.{whole};
+ghost use Rattle.model.specs.Tables.{whole, records};
 ghost use Rattle.filters.specs.Kept.{Keeps, copied};
 
 // How long the kept records are together, and how many were dropped.
@@ -51,5 +51,28 @@ pub fn keep(c: Context, e: Event, table: &[u8], new: &mut [u8]) -> Kept
     Kept {
         length: to,
         dropped,
+    }
+}
+
+// The same of a table whose records are counted: an event with no record in scope takes one copy, and
+// a reset, which drops every record, none.
+pub fn keep_counted(c: Context, e: Event, table: &[u8], count: usize, new: &mut [u8]) -> Kept
+    requires { ⌜ whole (now table) ≡ true ⌝ }
+    requires { ⌜ length (now table) ≤ length (now new) ⌝ }
+    requires { ⌜ count ≡ length (records (now table)) ⌝ }
+    ensures { λ r. ⌜ Keeps c e (now (table .entry)) (now (new .entry)) (r .length) (r .dropped) (now (new .exit)) ⌝ }
+{
+    if scopes::is_without_scope(c, e) {
+        return Kept {
+            length: copy_run(table, 0, table.len(), new, 0),
+            dropped: 0,
+        };
+    }
+    match e {
+        Event::Reset => Kept {
+            length: 0,
+            dropped: count,
+        },
+        _ => keep(c, e, table, new),
     }
 }

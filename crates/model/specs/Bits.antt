@@ -13,6 +13,16 @@ bits high low x = x / 2 ^ low % 2 ^ (high + 1 - low)
 abbrev pub bit : ℕ → ℕ → Bool
 bit n x = eqb (x / 2 ^ n % 2) 1
 
+-- linear addresses have 48 bits, and so have guest-physical ones; a page has 2^12 bytes
+abbrev pub linear-width : ℕ
+linear-width = 48
+
+abbrev pub guest-physical-width : ℕ
+guest-physical-width = 48
+
+abbrev pub page-width : ℕ
+page-width = 12
+
 -- the little-endian number of n bytes at a position; bytes past the end count as 0
 abbrev pub number : ℕ → ℕ → List ℕ → ℕ
 number zero at r = 0

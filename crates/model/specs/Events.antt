@@ -12,22 +12,23 @@ use Rattle.model.specs.declared.Operands.{Operands}
 use Rattle.model.specs.declared.Violation.{Violation}
 use Rattle.model.specs.declared.Entry
 use Rattle.model.specs.declared.NewPcid
-use Rattle.model.specs.Bits.{bits}
+use Rattle.model.specs.Bits.{bits, linear-width, guest-physical-width, page-width}
 use Rattle.model.specs.Context.{pcid-in-range, cpl-in-range}
 use Rattle.model.specs.Layouts.{Field, field, kind-of, mapping-kind, event-kind, length-of}
 use Rattle.model.specs.Mappings.{mapping, fields-in-range}
 
 -- "Canonical: bits 63 to 47 all equal."
 unfoldable pub canonical : ℕ → Bool
-canonical address = eqb (bits 63 47 address) 0 || eqb (bits 63 47 address) (2 ^ 17 - 1)
+canonical address =
+    eqb (bits 63 (linear-width - 1) address) 0 || eqb (bits 63 (linear-width - 1) address) (2 ^ (65 - linear-width) - 1)
 
 -- "The page of an address is its bits 47 to 12."
 abbrev pub page-of : ℕ → ℕ
-page-of address = bits 47 12 address
+page-of address = bits (linear-width - 1) page-width address
 
 -- "the guest-physical address is below 2^48"
 abbrev pub guest-physical-in-range : ℕ → Bool
-guest-physical-in-range address = ltb address (2 ^ 48)
+guest-physical-in-range address = ltb address (2 ^ guest-physical-width)
 
 -- "Flags are 0 or 1"
 abbrev pub flag-in-range : ℕ → Bool

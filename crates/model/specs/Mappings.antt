@@ -1,5 +1,5 @@
 -- Document 01, "Mapping records": what a record says, when it is valid, and what it covers.
-use Prim.Native.Nat.{ℕ, _*_, _/_, _%_, _^_}
+use Prim.Native.Nat.{ℕ, _-_, _*_, _/_, _%_, _^_}
 use mathlib.Core.Bool.{Bool, cond, _&&_, _||_}
 use mathlib.Core.List.{List}
 use lib.Dec.{eqb, leb, ltb}
@@ -7,6 +7,7 @@ use lib.ListN.{length}
 use Rattle.model.specs.declared.Mapping.{Mapping}
 use Rattle.model.specs.declared.Reading.{Reading}
 use Rattle.model.specs.declared.Reading.the-variants.{Record, Nothing}
+use Rattle.model.specs.Bits.{linear-width, page-width}
 use Rattle.model.specs.Context.{pcid-in-range}
 use Rattle.model.specs.Layouts.{Field, field, kind-of, mapping-kind, length-of}
 
@@ -25,7 +26,7 @@ mapping r =
       ep4ta = field Field.ep4ta r;
     }
 
--- the manual's three functions of a mapping (29.4.1), each a translation or a structure cache
+-- the manual's three sorts of mapping (000, 29.4.1), each a translation or a structure cache
 abbrev pub linear : ℕ → Bool
 linear kind = eqb kind 1 || eqb kind 4
 
@@ -49,7 +50,7 @@ pages span = 2 ^ (9 * span)
 
 -- "Page is below 2^36." "Page is a multiple of 2^(9s)."
 abbrev pub page-in-range : ℕ → ℕ → Bool
-page-in-range span page = ltb page (2 ^ 36) && eqb (page % pages span) 0
+page-in-range span page = ltb page (2 ^ (linear-width - page-width)) && eqb (page % pages span) 0
 
 -- "Global is 0 or 1. PCID is at most 4,095.", span and page. Frames and structures are any 5 bytes;
 -- a field that the kind lacks is 0, and so in its range.

@@ -42,8 +42,15 @@ fn read_log(log: &mut [u8]) -> Input
     }
 }
 
+fn say_unwritable() {
+    io::write_all(
+        STDERR_FILENO,
+        b"replay: standard output cannot be written\n",
+    );
+}
+
 // Writes the lines of the first rows, 780 at a time, each of at most 84 bytes. It ends where a write
-// fails.
+// fails, and says so.
 fn write_rows(rows: &[u8], count: usize) {
     let mut text = io::large_buffer();
     let mut from = 0;
@@ -55,6 +62,7 @@ fn write_rows(rows: &[u8], count: usize) {
         };
         let size = lines::write_lines(rows, from, to, &mut text);
         if !io::write_all(STDOUT_FILENO, &text[..size]) {
+            say_unwritable();
             return;
         }
         from = to;
@@ -75,7 +83,7 @@ fn context() -> Context
     }
 }
 
-// Replays a log of at most 65,536 bytes: as many events, and rows of 24 bytes.
+// Replays a log of at most 65,536 bytes, and so of at most 65,536 rows of 24 bytes.
 fn replay(log: &[u8]) {
     let mut first = [0u8; 45056];
     let mut second = [0u8; 45056];

@@ -1,6 +1,6 @@
 -- Document 01, "Replay program": what is reported of each event, and when the run ends.
 use Prim.Native.Nat.{ℕ, zero, suc, _+_, _/_, _%_}
-use mathlib.Core.Bool.{Bool, cond, _||_}
+use mathlib.Core.Bool.{Bool, true, cond, not, _||_}
 use mathlib.Core.List.{List, [], _∷_, _++_}
 use mathlib.Core.Path.{_≡_}
 use lib.Dec.{eqb}
@@ -33,6 +33,16 @@ run-lines s (e ∷ es) = run-line s e ∷ cond (stops (run-answer s e)) [] (run-
 unfoldable pub run-ended : Run → List (List ℕ) → Run
 run-ended s [] = s
 run-ended s (e ∷ es) = cond (stops (run-answer s e)) (run-after s e) (run-ended (run-after s e) es)
+
+-- whether the first of the two buffers holds the table after the events, as it does or does not
+-- before them: an accepted event puts it into the other
+unfoldable pub side-after : Bool → Run → List ℕ → Bool
+side-after first s e = cond (eqb (run-answer s e) 0) (not first) first
+
+unfoldable pub side-ended : Bool → Run → List (List ℕ) → Bool
+side-ended first s [] = first
+side-ended first s (e ∷ es) =
+    cond (stops (run-answer s e)) (side-after first s e) (side-ended (side-after first s e) (run-after s e) es)
 
 -- the same of the book
 unfoldable pub book-line : Book → List ℕ → Line
@@ -78,12 +88,13 @@ abbrev pub back-of : Replayed → List ℕ → List ℕ → List ℕ
 back-of r a b = cond (r .first) b a
 
 -- what a replay of a log leaves and reports: the context, the length of the table in force, how many
--- lines there are, the two buffers and the lines as rows, all of them the run's, for buffers of any
+-- lines there are, which buffer holds the table, the two buffers and the lines as rows, all of them the run's, for buffers of any
 -- length
 pub record Replays (c : Context) (log a b out : List ℕ) (r : Replayed) (a′ b′ out′ : List ℕ) : Type 0 where
   pub context : r .context ≡ run-ended (started c a b) (replayed log (length out)) .context
   pub size : r .length ≡ length (run-ended (started c a b) (replayed log (length out)) .table)
   pub count : r .count ≡ length (run-lines (started c a b) (replayed log (length out)))
+  pub first : r .first ≡ side-ended true (started c a b) (replayed log (length out))
   pub table : take (r .length) (front-of r a′ b′) ≡ run-ended (started c a b) (replayed log (length out)) .table
   pub front : front-of r a′ b′ ≡ run-ended (started c a b) (replayed log (length out)) .front
   pub back : back-of r a′ b′ ≡ run-ended (started c a b) (replayed log (length out)) .back

@@ -36,3 +36,4 @@ pub record Advances (s : State) (e a b : List ℕ) (r : Advanced) (a′ b′ : L
   pub run : run-at (r .state) a′ b′ ≡ run-after (run-at s a b) e
   pub answer : r .step .answer ≡ run-answer (run-at s a b) e
   pub dropped : r .step .dropped ≡ run-report (run-at s a b) e .dropped
+  pub side : r .state .first ≡ cond (eqb (r .step .answer) 0) (not (s .first)) (s .first)

@@ -1,1 +1,2 @@
-// No code yet: the theorem on whole runs, demand 3, stands in specs/.
+// No code: the book, the runs and the theorem of demand 3 stand in specs/. The code that replays a log
+// is the crate `replays`.

@@ -13,6 +13,7 @@ ghost use Rattle.model.specs.Context.{after-reset};
 ghost use Rattle.model.specs.Mappings.{mapping};
 ghost use Rattle.model.specs.Scopes.{vpid-tagged, invvpid-scope, invept-scope, invlpg-scope, guest-physical-violation-scope, combined-violation-scope, transition-scope, scope, entered, next-context, moved};
 ghost use Rattle.mappings.specs.Held.{Held};
+ghost use Rattle.scopes.specs.NoScope.{without-scope};
 
 // The record is a linear or combined mapping, kinds 1, 3, 4 and 6, which carry a VPID and a PCID.
 fn is_tagged(part: &[u8]) -> bool
@@ -177,6 +178,28 @@ pub fn is_in_scope(c: Context, e: Event, part: &[u8]) -> bool
         Event::Vmxoff => false,
         Event::NewPcid(_) => false,
         Event::Reset => true,
+    }
+}
+
+// No record of any table lies in the required scope of the event.
+pub fn is_without_scope(c: Context, e: Event) -> bool
+    ensures { λ r. ⌜ r ≡ without-scope c e ⌝ }
+{
+    match e {
+        Event::Invlpg(address) => !addresses::is_canonical(address),
+        Event::Entry(n) => n.vpids == 1,
+        Event::Exit(_) => {
+            let guest = c.place;
+            !(contexts::vpid(guest) == 0)
+        }
+        Event::Creation(_) => true,
+        Event::Vmxon => true,
+        Event::Vmxoff => true,
+        Event::NewPcid(_) => true,
+        Event::Invvpid(_) => false,
+        Event::Invept(_) => false,
+        Event::EptViolation(_) => false,
+        Event::Reset => false,
     }
 }
 

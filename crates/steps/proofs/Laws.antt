@@ -1,5 +1,4 @@
--- What a step's functions rest on: the kinds of creations, the bytes that an event adds, room, and a
--- buffer written twice.
+-- What a step's functions rest on: the bytes that an event adds, room, and a buffer written twice.
 use Prim.Native.Nat.{ℕ, _+_, _≤_, _<_, min}
 use mathlib.Core.Bool.{Bool, true, false, cond, not, _&&_, _||_}
 use mathlib.Core.List.{List, [], _∷_, _++_, append-assoc}
@@ -25,23 +24,6 @@ use Rattle.model.specs.Steps.{new-table, dropped-count, stepped, overwritten, w
 use Rattle.model.specs.Tables.{limit, whole, records, count}
 use Rattle.filters.specs.Kept.{kept, copied}
 use native.Mathlib.Nat.{sub-zero}
-use Rattle.mappings.specs.Fields.{by-kind, unknown-not}
-
--- the kinds of creations are 1 to 6
-pub mapping-kind-range : (k : ℕ) → mapping-kind k ≡ (leb 1 k && leb k 6)
-unfolding mapping-kind
-mapping-kind-range k = go (mapping-kind k) refl
-  where
-    go : (b : Bool) → mapping-kind k ≡ b → b ≡ (leb 1 k && leb k 6)
-    go true h = by-kind (λ k. true ≡ (leb 1 k && leb k 6)) refl refl refl refl refl refl k h
-    go false h = outside (leb 1 k) (leb k 6) refl refl
-      where
-        outside : (a b : Bool) → leb 1 k ≡ a → leb k 6 ≡ b → false ≡ (a && b)
-        outside true true p q =
-            absurd
-            (omega (arith, leb-true 1 k p, leb-true k 6 q, unknown-not k 1 h refl, unknown-not k 2 h refl, unknown-not k 3 h refl, unknown-not k 4 h refl, unknown-not k 5 h refl, unknown-not k 6 h refl))
-        outside true false p q = refl
-        outside false b p q = refl
 
 -- the bytes that an event adds: a creation's own, or none
 pub created-creation : (e : List ℕ) → mapping-kind (kind-of e) ≡ true → created e ≡ e

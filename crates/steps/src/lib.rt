@@ -9,7 +9,7 @@ ghost use mathlib.Core.List.{_++_};
 ghost use Prim.Native.Nat.{_+_, _≤_};
 ghost use lib.ListN.{length, take, drop};
 ghost use Rattle.model.specs.Layouts.{kind-of, mapping-kind};
-ghost use Rattle.model.specs.Tables.{whole};
+ghost use Rattle.model.specs.Tables.{whole, records};
 ghost use Rattle.model.specs.Events.{event};
 ghost use Rattle.model.specs.Scopes.{next-context};
 ghost use Rattle.model.specs.Answers.{created, no-room};
@@ -66,15 +66,17 @@ fn add_creation(raw: &[u8], new: &mut [u8], at: usize) -> usize
     filters::copy_run(raw, 0, raw.len(), new, at)
 }
 
-// Writes the new table of an accepted event: the kept records, and a creation at the end.
-fn perform(c: Context, e: Event, table: &[u8], raw: &[u8], new: &mut [u8]) -> Step
+// Writes the new table of an accepted event: the kept records, and a creation at the end. The table's
+// records are counted.
+fn perform(c: Context, e: Event, table: &[u8], count: usize, raw: &[u8], new: &mut [u8]) -> Step
     requires { ⌜ e ≡ event (now raw) ⌝ }
     requires { ⌜ whole (now table) ≡ true ⌝ }
+    requires { ⌜ count ≡ length (records (now table)) ⌝ }
     requires { ⌜ length (now table) + length (created (now raw)) ≤ length (now new) ⌝ }
     ensures { λ r. ⌜ r ≡ record { answer = 0; context = next-context c (event (now (raw .entry))); length = length (new-table c (now (table .entry)) (now (raw .entry))); dropped = dropped-count c (now (table .entry)) (now (raw .entry)) } ⌝ }
     ensures { λ _. ⌜ now (new .exit) ≡ overwritten (new-table c (now (table .entry)) (now (raw .entry))) (now (new .entry)) ⌝ }
 {
-    let kept = filters::keep(c, e, table, new);
+    let kept = filters::keep_counted(c, e, table, count, new);
     let length = add_creation(raw, new, kept.length);
     Step {
         answer: 0,
@@ -91,9 +93,9 @@ pub fn step(c: Context, table: &[u8], event: &[u8], new: &mut [u8]) -> Step
     ensures { λ r. ⌜ r ≡ stepped c (now (table .entry)) (now (event .entry)) (length (now (new .entry))) ⌝ }
     ensures { λ _. ⌜ now (new .exit) ≡ written c (now (table .entry)) (now (event .entry)) (now (new .entry)) ⌝ }
 {
-    let first = tables::answer_to_table(c, table);
-    if first != 0 {
-        return refused(first, c);
+    let first = tables::judge(c, table);
+    if first.answer != 0 {
+        return refused(first.answer, c);
     }
     let EventReading::Read(e) = events::read_event(event) else {
         return refused(4, c);
@@ -105,5 +107,5 @@ pub fn step(c: Context, table: &[u8], event: &[u8], new: &mut [u8]) -> Step
     if is_without_room(new.len(), table, event) {
         return refused(12, c);
     }
-    perform(c, e, table, event, new)
+    perform(c, e, table, first.records, event, new)
 }

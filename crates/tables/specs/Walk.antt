@@ -50,3 +50,37 @@ unfolding whole
 walk-starts {t} {at} w valid before none =
     let stop = walk-stop w (sym none ∙ ap record-length (sym (rest-of-drop at t))) refl in
     omega (arith, stop, eqb-true (length (joined (records t))) (length t) valid)
+
+-- The walk counts: so many records stand up to the position.
+pub record Counted (t : List ℕ) (at k : ℕ) : Type 0 where
+  pub walked : Walked t at
+  pub few : k ≤ at
+  pub numbered : k + length (records (drop at t)) ≡ length (records t)
+
+pub count-start : (t : List ℕ) → Counted t 0 0
+count-start t = record { walked = walk-start t; few = omega arith; numbered = omega arith }
+
+-- what the walk tells: how many bytes and how many records
+pub record Tells (t : List ℕ) (n k : ℕ) : Type 0 where
+  pub bytes : n ≡ length (joined (records t))
+  pub records : k ≡ length (records t)
+
+pub count-end : {t : List ℕ} {at k : ℕ} → Counted t at k → length t ≤ at → Tells t at k
+count-end {t} {at} w e =
+    let numbered = rw (records-drop-end t at e) at (w .numbered) in
+    record { bytes = walk-end (w .walked) e; records = omega arith }
+
+module _ {t : List ℕ} {at n k : ℕ} (w : Counted t at k) (read : n ≡ record-length (take (length t - at) (drop at t))) where
+  pub count-stop : n ≡ 0 → Tells t at k
+  count-stop none =
+      let numbered = rw (records-none (drop at t) (length-read (w .walked) read ∙ none)) at (w .numbered) in
+      record { bytes = walk-stop (w .walked) read none; records = omega arith }
+
+  pub count-on : (n ≡ 0 → ⊥) → Counted t (at + n) (k + 1)
+  count-on some = go n (length-read (w .walked) read) some (walk-on (w .walked) read some)
+    where
+      go : (n : ℕ) → record-length (drop at t) ≡ n → (n ≡ 0 → ⊥) → Walked t (at + n) → Counted t (at + n) (k + 1)
+      go zero e some on = absurd (some refl)
+      go (suc n) e some on =
+          let numbered = rw (records-drop-cons t at n e) at (w .numbered) in
+          record { walked = on; few = omega (arith, w .few); numbered = omega arith }

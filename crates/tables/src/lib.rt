@@ -4,21 +4,46 @@ ghost use mathlib.Core.Path.{_≡_};
 ghost use lib.ListN.{length};
 ghost use Rattle.model.specs.Tables.{joined, records, whole};
 ghost use Rattle.model.specs.Answers.{first, table-grounds};
+ghost use Rattle.tables.specs.Walk.{Tells};
+ghost use Rattle.tables.specs.Judged.{Judges};
 
-// How many bytes at the front of the table are whole, valid records: all of them exactly if the table
-// is valid. Each record is read as the part of the table that starts at its kind byte.
-pub fn extent(table: &[u8]) -> usize
-    ensures { λ r. ⌜ r ≡ length (joined (records (now (table .entry)))) ⌝ }
+// What a walk over a table passed: bytes, and records.
+struct Passed {
+    bytes: usize,
+    records: usize,
+}
+
+// The answer to a context and a table, and how many records a table has that is answered 0.
+pub struct Judged {
+    pub answer: u64,
+    pub records: usize,
+}
+
+// Passes over the whole, valid records at the front of the table. Each record is read as the part of
+// the table that starts at its kind byte.
+fn walk(table: &[u8]) -> Passed
+    ensures { λ r. ⌜ Tells (now (table .entry)) (r .bytes) (r .records) ⌝ }
 {
     let mut at = 0;
+    let mut records = 0;
     while at < table.len() {
         let length = mappings::length_of_record(&table[at..]);
         if length == 0 {
-            return at;
+            return Passed { bytes: at, records };
         }
         at += length;
+        records += 1;
     }
-    at
+    Passed { bytes: at, records }
+}
+
+// How many bytes at the front of the table are whole, valid records: all of them exactly if the table
+// is valid.
+pub fn extent(table: &[u8]) -> usize
+    ensures { λ r. ⌜ r ≡ length (joined (records (now (table .entry)))) ⌝ }
+{
+    let passed = walk(table);
+    passed.bytes
 }
 
 // The table is whole, valid records.
@@ -28,18 +53,39 @@ pub fn is_whole(table: &[u8]) -> bool
     extent(table) == table.len()
 }
 
-// The answer that a context and a table alone give: 1, 2 or 3, else 0.
+// The answer that a context and a table alone give: 1, 2 or 3, else 0; and the number of records.
+pub fn judge(c: Context, table: &[u8]) -> Judged
+    ensures { λ r. ⌜ Judges c (now (table .entry)) (r .answer) (r .records) ⌝ }
+{
+    if !contexts::is_in_range(c) {
+        return Judged {
+            answer: 1,
+            records: 0,
+        };
+    }
+    if 45056 < table.len() {
+        return Judged {
+            answer: 2,
+            records: 0,
+        };
+    }
+    let passed = walk(table);
+    if passed.bytes != table.len() {
+        return Judged {
+            answer: 3,
+            records: 0,
+        };
+    }
+    Judged {
+        answer: 0,
+        records: passed.records,
+    }
+}
+
+// The answer that a context and a table alone give.
 pub fn answer_to_table(c: Context, table: &[u8]) -> u64
     ensures { λ r. ⌜ r ≡ first (table-grounds c (now (table .entry))) ⌝ }
 {
-    if !contexts::is_in_range(c) {
-        return 1;
-    }
-    if 45056 < table.len() {
-        return 2;
-    }
-    if !is_whole(table) {
-        return 3;
-    }
-    0
+    let judged = judge(c, table);
+    judged.answer
 }

@@ -19,10 +19,11 @@ const USAGE: &str = "usage: bench [--csv FILE] [--svg FILE]";
 
 const NOTES: &str = "\
 The proved library beside the tuned model and a plain copy of the same bytes,
-in one run. Each time is the least of many, taken in turn. All buffers were
-filled before the first call and not cleared between calls. Calls take several
-tables of one shape and size in turn, 11,264 records in all, so that no table
-is learnt by heart. A creation on the fullest table finds one record fewer.
+in one run. Each time is processor time, and the least of many, taken in turn.
+All buffers were filled before the first call and not cleared between calls.
+Calls take several tables of one shape and size in turn, 11,264 records in all,
+so that no table is learnt by heart. A creation on the fullest table finds one
+record fewer.
 'growth' is the time at 2,816 records over that at 1,408; a full table of
 mixed kinds has fewer, and its growth is scaled to twice the records.";
 

@@ -3,7 +3,6 @@
 use crate::report::Row;
 use std::cell::RefCell;
 use std::rc::Rc;
-use std::time::Instant;
 
 /// A buffer that all measurements of one contestant share. It is filled once
 /// and never cleared.
@@ -38,9 +37,34 @@ impl Item {
     }
 }
 
-/// The nanoseconds that some work takes, for each of so many events.
+/// The nanoseconds of processor time that some work takes, for each of so
+/// many events. Time in which another program has the processor is not in it.
 pub fn time(events: usize, work: impl FnOnce()) -> f64 {
-    let start = Instant::now();
+    let start = processor_time();
     work();
-    start.elapsed().as_nanos() as f64 / events as f64
+    (processor_time() - start) as f64 / events as f64
+}
+
+#[repr(C)]
+struct Timespec {
+    seconds: i64,
+    nanoseconds: i64,
+}
+
+extern "C" {
+    fn clock_gettime(clock: i32, time: *mut Timespec) -> i32;
+}
+
+/// Linux's clock of the processor time of this thread.
+const THREAD_CLOCK: i32 = 3;
+
+fn processor_time() -> i64 {
+    let mut time = Timespec {
+        seconds: 0,
+        nanoseconds: 0,
+    };
+    // SAFETY: a struct as Linux on x86-64 has it, and alone borrowed.
+    let status = unsafe { clock_gettime(THREAD_CLOCK, &mut time) };
+    assert_eq!(status, 0, "no clock of the processor time");
+    time.seconds * 1_000_000_000 + time.nanoseconds
 }

@@ -87,14 +87,13 @@ pub fn buffer(name: &str, buffer: &Buffer) -> String {
 
 /// Compares what two steps report.
 pub fn same_step(got: &FlatStep, due: &FlatStep) -> Result<(), String> {
-    let mut differences = context_differences(&got.context, &due.context);
-    differences.extend(difference("answer", got.answer, due.answer));
-    differences.extend(difference("length", got.length as u64, due.length as u64));
-    differences.extend(difference(
-        "dropped",
-        got.dropped as u64,
-        due.dropped as u64,
-    ));
+    let numbers = [
+        difference("answer", got.answer, due.answer),
+        difference("length", got.length as u64, due.length as u64),
+        difference("dropped", got.dropped as u64, due.dropped as u64),
+    ];
+    let mut differences: Vec<String> = numbers.into_iter().flatten().collect();
+    differences.extend(context_differences(&got.context, &due.context));
     all_same(differences)
 }
 

@@ -41,6 +41,9 @@ slice-aggregate-write-all c = search needs
 write-all-requires : tie.Need-write-all-requires Inv-loop μ-loop
 write-all-requires c κs = search needs
 
+say-unwritable-requires : tie.Need-say-unwritable-requires Inv-loop μ-loop
+say-unwritable-requires c κs = search needs
+
 returns : tie.Need-returns Inv-loop μ-loop
 returns c = search needs
 
@@ -68,6 +71,7 @@ write-rows-spec =
     array-share-prefix-text
     slice-aggregate-write-all
     write-all-requires
+    say-unwritable-requires
     returns
     loop-less
     loop-again

@@ -17,7 +17,7 @@ use Rattle.replays.proofs.replay.Tie as tie
 
 abbrev Inv-loop : tie.InvT-loop
 Inv-loop log first₀ second₀ rows₀ state₀ at₀ count₀ written₀ stopped₀ first second rows state at count written stopped =
-    Replaying (run-at state₀ first₀ second₀) log first₀ second₀ rows₀ state at count written stopped first second rows
+    Replaying (state₀ .first) (run-at state₀ first₀ second₀) log first₀ second₀ rows₀ state at count written stopped first second rows
 
 abbrev μ-loop : tie.MeasureT-loop
 μ-loop log first₀ second₀ rows₀ state₀ at₀ count₀ written₀ stopped₀ first second rows state at count written stopped =
@@ -120,7 +120,7 @@ returns c =
     let l = c .before .before .loop in
     let reset = c .before .before .before .reset in
     let begun = run-at-started (a .c) (reset .result) (now (a .first)) (now (a .second)) (reset .ensures) in
-    let done = replaying-end (l .inv) (a .c) begun (c .before .loop-test .left) in
+    let done = replaying-end (l .inv) (a .c) refl begun (c .before .loop-test .left) in
     (done, by-the-book done)
 
 pub replay-spec : {M : Type 1} → statement M

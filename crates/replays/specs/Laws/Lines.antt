@@ -11,7 +11,7 @@ use Rattle.runs.specs.Book.{Book, opened, book-answer, book-after}
 use Rattle.runs.specs.Runs.{Run, started, run-answer, run-after}
 use Rattle.runs.specs.Laws.First.{Follows, follows-started, follows-table, follows-answer, follows-report, follows-after}
 use Rattle.replays.specs.declared.Replayed.{Replayed}
-use Rattle.replays.specs.Replays.{stops, run-line, run-lines, run-ended, book-line, book-lines, book-ended, replayed, Replays, ByTheBook}
+use Rattle.replays.specs.Replays.{stops, run-line, run-lines, run-ended, side-after, side-ended, book-line, book-lines, book-ended, replayed, Replays, ByTheBook}
 
 -- the first event of a run, and those that are left: none if its answer ends the run
 pub run-lines-cons : (s : Run) (e : List ℕ) (es : List (List ℕ))
@@ -20,6 +20,16 @@ unfolding run-lines
 run-lines-cons s e es = go (stops (run-answer s e))
   where
     go : (b : Bool) → run-line s e ∷ cond b [] (run-lines (run-after s e) es) ≡ run-line s e ∷ run-lines (run-after s e) (cond b [] es)
+    go true = refl
+    go false = refl
+
+pub side-ended-cons : (first : Bool) (s : Run) (e : List ℕ) (es : List (List ℕ))
+    → side-ended first s (e ∷ es) ≡ side-ended (side-after first s e) (run-after s e) (cond (stops (run-answer s e)) [] es)
+unfolding side-ended
+side-ended-cons first s e es = go (stops (run-answer s e))
+  where
+    go : (b : Bool) → cond b (side-after first s e) (side-ended (side-after first s e) (run-after s e) es)
+        ≡ side-ended (side-after first s e) (run-after s e) (cond b [] es)
     go true = refl
     go false = refl
 

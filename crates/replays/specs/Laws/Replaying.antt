@@ -18,11 +18,11 @@ use Rattle.replays.specs.declared.State.{State}
 use Rattle.replays.specs.declared.Advanced.{Advanced}
 use Rattle.replays.specs.Logs.{event-size, events-of}
 use Rattle.replays.specs.State.{run-at, held-by, Advances}
-use Rattle.replays.specs.Replays.{Line, row-length, stops, row, rows, put, run-line, run-lines, run-ended, replayed, Replays}
+use Rattle.replays.specs.Replays.{Line, row-length, stops, row, rows, put, run-line, run-lines, run-ended, side-after, side-ended, replayed, Replays}
 use Rattle.replays.specs.Laws.Logs.{event-size-within, events-of-drop, events-of-end}
 use Rattle.replays.specs.Laws.Rows.{put-nil, put-front, put-put, length-put, length-row}
 use Rattle.replays.specs.Laws.State.{length-run-at}
-use Rattle.replays.specs.Laws.Lines.{run-lines-cons, run-ended-cons}
+use Rattle.replays.specs.Laws.Lines.{run-lines-cons, run-ended-cons, side-ended-cons}
 
 -- the loop's test, and the events for which the loop goes on
 abbrev pub goes-on : List ℕ → ℕ → ℕ → ℕ → Bool → Bool
@@ -91,9 +91,14 @@ module _ {log : List ℕ} {room at written : ℕ} {stopped : Bool} (g : Going lo
   unfolding left-of
   run-ended-left = rw (left-cons g, run-ended-cons, ← (done .answer), ← (done .run))
 
+  pub side-ended-left : side-ended (s .first) (run-at s a b) (left-of log room at written stopped)
+      ≡ side-ended (r .state .first) (run-at (r .state) a′ b′) (left-of log room (at + event-size (drop at log)) (written + row-length) (stops (r .step .answer)))
+  unfolding left-of side-after
+  side-ended-left = rw (left-cons g, side-ended-cons, ← (done .answer), ← (done .run), ← (done .side))
+
 -- A replay from a run on stands at a position of the log. With the events that are left added, its end,
 -- its count and its rows are the whole replay's.
-pub record Replaying (start : Run) (log a b out : List ℕ) (s : State) (at count written : ℕ) (stopped : Bool) (a′ b′ out′ : List ℕ) : Type 0 where
+pub record Replaying (begun : Bool) (start : Run) (log a b out : List ℕ) (s : State) (at count written : ℕ) (stopped : Bool) (a′ b′ out′ : List ℕ) : Type 0 where
   pub held : held-by s a′ b′
   pub inside : at ≤ length log
   pub few : count ≤ at
@@ -102,13 +107,14 @@ pub record Replaying (start : Run) (log a b out : List ℕ) (s : State) (at coun
   pub second : length b′ ≡ length b
   pub size : length out′ ≡ length out
   pub ended : run-ended (run-at s a′ b′) (left-of log (length out) at written stopped) ≡ run-ended start (replayed log (length out))
+  pub side : side-ended (s .first) (run-at s a′ b′) (left-of log (length out) at written stopped) ≡ side-ended begun start (replayed log (length out))
   pub number : count + length (run-lines (run-at s a′ b′) (left-of log (length out) at written stopped))
       ≡ length (run-lines start (replayed log (length out)))
   pub lines : put written (rows (run-lines (run-at s a′ b′) (left-of log (length out) at written stopped))) out′
       ≡ overwritten (rows (run-lines start (replayed log (length out)))) out
 
 pub replaying-start : (log a b out : List ℕ) (s : State) → s .length ≡ 0
-    → Replaying (run-at s a b) log a b out s 0 0 0 false a b out
+    → Replaying (s .first) (run-at s a b) log a b out s 0 0 0 false a b out
 unfolding left-of replayed held-by
 replaying-start log a b out s none =
     record {
@@ -120,11 +126,12 @@ replaying-start log a b out s none =
       second = refl;
       size = refl;
       ended = rw sub-zero;
+      side = rw sub-zero;
       number = rw sub-zero (omega arith);
       lines = rw sub-zero (put-front (rows (run-lines (run-at s a b) (replayed log (length out)))) out);
     }
 
-module _ {start : Run} {log a b out : List ℕ} {s : State} {at count written : ℕ} {stopped : Bool} {a′ b′ out′ : List ℕ} (p : Replaying start log a b out s at count written stopped a′ b′ out′) where
+module _ {begun : Bool} {start : Run} {log a b out : List ℕ} {s : State} {at count written : ℕ} {stopped : Bool} {a′ b′ out′ : List ℕ} (p : Replaying begun start log a b out s at count written stopped a′ b′ out′) where
   -- the loop asks for room in the rows as they are
   pub replaying-going : goes-on log (length out′) at written stopped ≡ true → Going log (length out) at written stopped
   replaying-going test = going log (length out) at written stopped (rw (p .size) at test)
@@ -135,7 +142,7 @@ module _ {start : Run} {log a b out : List ℕ} {s : State} {at count written : 
       → length a″ ≡ length a′
       → length b″ ≡ length b′
       → {out″ : List ℕ} → out″ ≡ put written (row (line-of r)) out′
-      → Replaying start log a b out (r .state) (at + event-size (drop at log)) (count + 1) (written + row-length) (stops (r .step .answer)) a″ b″ out″
+      → Replaying begun start log a b out (r .state) (at + event-size (drop at log)) (count + 1) (written + row-length) (stops (r .step .answer)) a″ b″ out″
   unfolding rows
   replaying-turn g {r} {a″} {b″} done keeps-a keeps-b {out″} wrote =
       let left = left-of log (length out) (at + event-size (drop at log)) (written + row-length) (stops (r .step .answer)) in
@@ -151,6 +158,7 @@ module _ {start : Run} {log a b out : List ℕ} {s : State} {at count written : 
         second = keeps-b ∙ p .second;
         size = ap length wrote ∙ length-put written (row (line-of r)) out′ fits ∙ p .size;
         ended = sym (run-ended-left g done) ∙ p .ended;
+        side = sym (side-ended-left g done) ∙ p .side;
         number = omega (arith, p .number, ap length next);
         lines =
             rw wrote (rw length-row at (put-put written (row (line-of r)) (rows others) out′ fits))
@@ -158,19 +166,21 @@ module _ {start : Run} {log a b out : List ℕ} {s : State} {at count written : 
       }
 
   -- the end, of a replay from a reset
-  pub replaying-end : (c : Context) → start ≡ started c a b → goes-on log (length out′) at written stopped ≡ false
+  pub replaying-end : (c : Context) → begun ≡ true → start ≡ started c a b → goes-on log (length out′) at written stopped ≡ false
       → Replays c log a b out (record { context = s .context; length = s .length; first = s .first; count = count }) a′ b′ out′
-  unfolding run-lines run-ended rows run-at
-  replaying-end c begun over =
+  unfolding run-lines run-ended side-ended rows run-at
+  replaying-end c is-first is-started over =
       let none = left-none log (length out) at written stopped (rw (p .size) at over) in
-      let q = rw begun at p in
+      let q = rw (is-first, is-started) at p in
       let ended : run-at s a′ b′ ≡ run-ended (started c a b) (replayed log (length out)) = rw none at (q .ended) in
+      let side : s .first ≡ side-ended true (started c a b) (replayed log (length out)) = rw none at (q .side) in
       let number : count + 0 ≡ length (run-lines (started c a b) (replayed log (length out))) = rw none at (q .number) in
       let lines : put written [] out′ ≡ overwritten (rows (run-lines (started c a b) (replayed log (length out)))) out = rw none at (q .lines) in
       record {
         context = ap (λ (x : Run). x .context) ended;
         size = sym (length-run-at s a′ b′ (p .held)) ∙ ap (λ (x : Run). length (x .table)) ended;
         count = omega arith;
+        first = side;
         table = ap (λ (x : Run). x .table) ended;
         front = ap (λ (x : Run). x .front) ended;
         back = ap (λ (x : Run). x .back) ended;

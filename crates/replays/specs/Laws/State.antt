@@ -28,6 +28,15 @@ abbrev pub other-at : State → List ℕ → List ℕ → List ℕ
 other-at s a b = cond (s .first) b a
 
 -- a step r on the table in force, which left the other buffer as `new`
+-- an accepted step exchanges the buffers
+first-after : (s : State) (r : Step) → state-after s r .first ≡ cond (eqb (r .answer) 0) (not (s .first)) (s .first)
+unfolding state-after
+first-after s r = go (eqb (r .answer) 0)
+  where
+    go : (b : Bool) → (cond b (record { context = r .context; length = r .length; first = not (s .first) }) s) .first ≡ cond b (not (s .first)) (s .first)
+    go true = refl
+    go false = refl
+
 module _ (s : State) (a b e : List ℕ) (r : Step) (new : List ℕ)
     (told : r ≡ stepped (s .context) (table-at s a b) e (length (other-at s a b)))
     (wrote : new ≡ written (s .context) (table-at s a b) e (other-at s a b))
@@ -92,4 +101,5 @@ module _ (s : State) (a b e : List ℕ) (r : Step) (new : List ℕ)
           run = rw (is, front, back) run-at-after;
           answer = sym told-answer;
           dropped = ap (λ (x : Step). x .dropped) told;
+          side = ap (λ (x : State). x .first) is ∙ first-after s r;
         }

@@ -15,14 +15,14 @@ use Rattle.steps.proofs.Laws.{new-table-kept, dropped-count-kept, overw
 use Rattle.steps.proofs.perform.Statement.{statement}
 use Rattle.steps.proofs.perform.Tie as tie
 
-keep-requires : tie.Need-keep-requires
-keep-requires c κs = search needs
+keep-counted-requires : tie.Need-keep-counted-requires
+keep-counted-requires c κs = search needs
 
 add-creation-requires : tie.Need-add-creation-requires
 add-creation-requires c κs =
     let a = c .before .before .before .before .before .before .before .before .args in
-    let k = c .before .before .before .keep .ensures in
-    omega (arith, k .length, kept-length (a .c) (a .e) (now (a .table)), c .before .before .before .keep .kept .1 .1 .1 .0)
+    let k = c .before .before .before .keep-counted .ensures in
+    omega (arith, k .length, kept-length (a .c) (a .e) (now (a .table)), c .before .before .before .keep-counted .kept .1 .1 .1 .1 .0)
 
 context-after-requires : tie.Need-context-after-requires
 context-after-requires c κs = search needs
@@ -34,7 +34,7 @@ returns : tie.Need-returns
 returns c =
     let a = c .before .before .before .before .before .before .before .before .before .before .before .before .args in
     let same = c .before .before .before .before .before .before .before .before .before .before .before .before .pre .0 in
-    let k = c .before .before .before .before .before .before .before .keep .ensures in
+    let k = c .before .before .before .before .before .before .before .keep-counted .ensures in
     let added = c .before .before .before .add-creation .ensures in
     let table = new-table-kept (a .c) (a .e) (now (a .table)) (now (a .raw)) same in
     let context = c .context-after .ensures ∙ ap (next-context (a .c)) same in
@@ -47,4 +47,4 @@ returns c =
 pub perform-spec : {M : Type 1} → statement M
 perform-spec =
     tie.close
-    (tie.spec keep-requires add-creation-requires context-after-requires same-length returns)
+    (tie.spec keep-counted-requires add-creation-requires context-after-requires same-length returns)

@@ -11,19 +11,19 @@ use Rattle.steps.proofs.Laws.{reading-read, reading-invalid, step-refus
 use Rattle.steps.proofs.step.Statement.{statement}
 use Rattle.steps.proofs.step.Tie as tie
 
-answer-to-table-requires : tie.Need-answer-to-table-requires
-answer-to-table-requires c κs = search needs
+judge-requires : tie.Need-judge-requires
+judge-requires c κs = search needs
 
 refused-requires : tie.Need-refused-requires
 refused-requires c κs = search needs
 
 returns : tie.Need-returns
 returns c =
-    let a = c .before .before .before .before .before .before .args in
+    let a = c .before .before .before .before .before .before .before .args in
     let t = now (a .table) in
     let e = now (a .event) in
     let b = now (a .new) in
-    let is = c .before .before .answer-to-table .ensures in
+    let is = c .before .before .before .judge .ensures .answer in
     let some = c .before .if1 .taken in
     step-refused (a .c) t e b _ (answer-of-table (a .c) t e (length b) (λ z. some (is ∙ z)) ∙ sym is) some _ (c .refused .ensures)
 
@@ -41,17 +41,17 @@ refused-requires-2 c κs = search needs
 
 returns-2 : tie.Need-returns-2
 returns-2 c =
-    let a = c .before .before .before .before .before .before .before .before .before .args in
+    let a = c .before .before .before .before .before .before .before .before .before .before .args in
     let t = now (a .table) in
     let e = now (a .event) in
     let b = now (a .new) in
-    let none = sym (c .before .before .before .before .before .answer-to-table .ensures) ∙ c .before .before .before .before .if1 .left in
+    let none = sym (c .before .before .before .before .before .before .judge .ensures .answer) ∙ c .before .before .before .before .if1 .left in
     let invalid = reading-invalid e (sym (c .before .before .before .read-event .ensures) ∙ c .before .enum-told .given .1) in
     step-refused (a .c) t e b 4 (answer-of-invalid (a .c) t e (length b) none invalid) (λ z. omega arith) _ (c .refused2 .ensures)
 
 -- past the table's answers and a valid event
 valid : (c : tie.After-known-told)
-    → (Rattle.model.specs.Events.valid-event (now (c .before .before .before .before .before .before .before .before .before .args .event)) ≡ mathlib.Core.Bool.true) × (c .before .e .given .0 .0 ≡ event (now (c .before .before .before .before .before .before .before .before .before .args .event)))
+    → (Rattle.model.specs.Events.valid-event (now (c .before .before .before .before .before .before .before .before .before .before .args .event)) ≡ mathlib.Core.Bool.true) × (c .before .e .given .0 .0 ≡ event (now (c .before .before .before .before .before .before .before .before .before .before .args .event)))
 valid c = reading-read _ _ (sym (c .before .before .before .read-event .ensures) ∙ c .before .e .given .1)
 
 answer-to-event-requires : tie.Need-answer-to-event-requires
@@ -62,11 +62,11 @@ refused-requires-3 c κs = search needs
 
 returns-3 : tie.Need-returns-3
 returns-3 c =
-    let a = c .before .before .before .before .before .before .before .before .before .before .before .before .args in
+    let a = c .before .before .before .before .before .before .before .before .before .before .before .before .before .args in
     let t = now (a .table) in
     let e = now (a .event) in
     let b = now (a .new) in
-    let none = sym (c .before .before .before .before .before .before .before .before .answer-to-table .ensures) ∙ c .before .before .before .before .before .before .before .if1 .left in
+    let none = sym (c .before .before .before .before .before .before .before .before .before .judge .ensures .answer) ∙ c .before .before .before .before .before .before .before .if1 .left in
     let read = valid (c .before .before .before) in
     let is = c .before .before .answer-to-event .ensures ∙ ap (event-answer (a .c)) (read .1) in
     let some = c .before .if2 .taken in
@@ -80,11 +80,11 @@ refused-requires-4 c κs = search needs
 
 returns-4 : tie.Need-returns-4
 returns-4 c =
-    let a = c .before .before .before .before .before .before .before .before .before .before .before .before .before .before .args in
+    let a = c .before .before .before .before .before .before .before .before .before .before .before .before .before .before .before .args in
     let t = now (a .table) in
     let e = now (a .event) in
     let b = now (a .new) in
-    let none = sym (c .before .before .before .before .before .before .before .before .before .before .answer-to-table .ensures) ∙ c .before .before .before .before .before .before .before .before .before .if1 .left in
+    let none = sym (c .before .before .before .before .before .before .before .before .before .before .before .judge .ensures .answer) ∙ c .before .before .before .before .before .before .before .before .before .if1 .left in
     let read = valid (c .before .before .before .before .before) in
     let no-event = sym (c .before .before .before .before .answer-to-event .ensures ∙ ap (event-answer (a .c)) (read .1)) ∙ c .before .before .before .if2 .left in
     let full = sym (c .before .before .is-without-room .ensures) ∙ c .before .if3 .taken in
@@ -92,22 +92,23 @@ returns-4 c =
 
 perform-requires : tie.Need-perform-requires
 perform-requires c κs =
-    let a = c .before .before .before .before .before .before .before .before .before .before .before .before .before .before .args in
-    let none = sym (c .before .before .before .before .before .before .before .before .before .before .answer-to-table .ensures) ∙ c .before .before .before .before .before .before .before .before .before .if1 .left in
+    let a = c .before .before .before .before .before .before .before .before .before .before .before .before .before .before .before .args in
+    let none = sym (c .before .before .before .before .before .before .before .before .before .before .before .judge .ensures .answer) ∙ c .before .before .before .before .before .before .before .before .before .if1 .left in
     let free = sym (c .before .before .is-without-room .ensures) ∙ c .before .if3 .left in
     let left = room-left (a .c) (now (a .table)) (now (a .event)) (now (a .new)) none free in
-    (valid (c .before .before .before .before .before) .1, (left .0, left .1))
+    let counted = c .before .before .before .before .before .before .before .before .before .before .before .judge .ensures .records (c .before .before .before .before .before .before .before .before .before .if1 .left) in
+    (valid (c .before .before .before .before .before) .1, (left .0, (counted, left .1)))
 
 same-length : tie.Need-same-length
 same-length c = search needs
 
 returns-5 : tie.Need-returns-5
 returns-5 c =
-    let a = c .before .before .before .before .before .before .before .before .before .before .before .before .before .before .before .before .before .args in
+    let a = c .before .before .before .before .before .before .before .before .before .before .before .before .before .before .before .before .before .before .args in
     let t = now (a .table) in
     let e = now (a .event) in
     let b = now (a .new) in
-    let none = sym (c .before .before .before .before .before .before .before .before .before .before .before .before .before .answer-to-table .ensures) ∙ c .before .before .before .before .before .before .before .before .before .before .before .before .if1 .left in
+    let none = sym (c .before .before .before .before .before .before .before .before .before .before .before .before .before .before .judge .ensures .answer) ∙ c .before .before .before .before .before .before .before .before .before .before .before .before .if1 .left in
     let read = valid (c .before .before .before .before .before .before .before .before) in
     let no-event = sym (c .before .before .before .before .before .before .before .answer-to-event .ensures ∙ ap (event-answer (a .c)) (read .1)) ∙ c .before .before .before .before .before .before .if2 .left in
     let free = sym (c .before .before .before .before .before .is-without-room .ensures) ∙ c .before .before .before .before .if3 .left in
@@ -118,7 +119,7 @@ pub step-spec : {M : Type 1} → statement M
 step-spec =
     tie.close
     (tie.spec
-    answer-to-table-requires
+    judge-requires
     refused-requires
     returns
     read-event-requires

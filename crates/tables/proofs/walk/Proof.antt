@@ -1,20 +1,21 @@
--- The walk stands behind whole, valid records. The measure is what is left of the length.
+-- The walk stands behind whole, valid records and has counted them. The measure is what is left of the
+-- length.
 use Prim.Native.Nat.{_-_}
 use native.Mathlib.Omega.{arith}
 use borrow.Author.Needs.{needs}
 use lib.ListN.{length}
-use Rattle.tables.specs.Walk.{Walked, walk-start, walk-on, walk-stop, walk-end}
-use Rattle.tables.proofs.extent.Statement.{statement}
-use Rattle.tables.proofs.extent.Tie as tie
+use Rattle.tables.specs.Walk.{Counted, count-start, count-on, count-stop, count-end}
+use Rattle.tables.proofs.walk.Statement.{statement}
+use Rattle.tables.proofs.walk.Tie as tie
 
 abbrev Inv-loop : tie.InvT-loop
-Inv-loop table at₀ at = Walked table at
+Inv-loop table at₀ records₀ at records = Counted table at records
 
 abbrev μ-loop : tie.MeasureT-loop
-μ-loop table at₀ at = length table - at
+μ-loop table at₀ records₀ at records = length table - at
 
 loop-holds : tie.Need-loop-holds Inv-loop μ-loop
-loop-holds c = walk-start _
+loop-holds c = count-start _
 
 sub-length-of-record : tie.Need-sub-length-of-record Inv-loop μ-loop
 sub-length-of-record c = search needs
@@ -29,22 +30,25 @@ length-of-record-requires : tie.Need-length-of-record-requires Inv-loop μ-loop
 length-of-record-requires c κs = search needs
 
 returns : tie.Need-returns Inv-loop μ-loop
-returns c = walk-stop (c .before .before .before .before .loop .inv) (c .before .length-of-record .ensures) (c .if1 .taken)
+returns c = count-stop (c .before .before .before .before .loop .inv) (c .before .length-of-record .ensures) (c .if1 .taken)
 
 loop-again : tie.Need-loop-again Inv-loop μ-loop
-loop-again c = walk-on (c .before .before .before .before .loop .inv) (c .before .length-of-record .ensures) (c .if1 .left)
+loop-again c = count-on (c .before .before .before .before .loop .inv) (c .before .length-of-record .ensures) (c .if1 .left)
 
 add-at : tie.Need-add-at Inv-loop μ-loop
-add-at c = omega (arith, loop-again c)
+add-at c = omega (arith, loop-again c .walked)
+
+add-records : tie.Need-add-records Inv-loop μ-loop
+add-records c = omega (arith, loop-again c .few, loop-again c .walked)
 
 loop-less : tie.Need-loop-less Inv-loop μ-loop
-loop-less c = omega (arith, loop-again c)
+loop-less c = omega (arith, loop-again c .walked)
 
 returns-2 : tie.Need-returns-2 Inv-loop μ-loop
-returns-2 c = walk-end (c .before .loop .inv) (c .loop-test .left)
+returns-2 c = count-end (c .before .loop .inv) (c .loop-test .left)
 
-pub extent-spec : {M : Type 1} → statement M
-extent-spec =
+pub walk-spec : {M : Type 1} → statement M
+walk-spec =
     tie.close
     (tie.spec
     Inv-loop
@@ -56,6 +60,7 @@ extent-spec =
     length-of-record-requires
     returns
     add-at
+    add-records
     loop-less
     loop-again
     returns-2)
