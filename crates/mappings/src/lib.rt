@@ -1,6 +1,6 @@
 // Mapping records: the reader, and the single fields of a record. A record is handed in as the part
 // of the table that starts at its kind byte; what follows the record is not looked at. The kinds of a
-// table come in any order, so what they decide is read by shifts and made of tests with no branch.
+// table come in any order, so lengths and places of spans are read by shifts and not by branches.
 use model::Mapping;
 use model::Reading;
 ghost use mathlib.Core.Path.{_≡_};

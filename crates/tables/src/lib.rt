@@ -13,7 +13,7 @@ struct Passed {
     records: usize,
 }
 
-// The answer to a context and a table, and how many records a table has that is answered 0.
+// The answer to a context and a table, and how many records the table has, 0 where the answer is not 0.
 pub struct Judged {
     pub answer: u64,
     pub records: usize,
@@ -53,7 +53,8 @@ pub fn is_whole(table: &[u8]) -> bool
     extent(table) == table.len()
 }
 
-// The answer that a context and a table alone give: 1, 2 or 3, else 0; and the number of records.
+// The answer that a context and a table alone give: 1, 2 or 3, else 0; and the number of records, 0 where
+// the answer is not 0.
 pub fn judge(c: Context, table: &[u8]) -> Judged
     ensures { λ r. ⌜ Judges c (now (table .entry)) (r .answer) (r .records) ⌝ }
 {

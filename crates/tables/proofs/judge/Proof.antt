@@ -3,7 +3,7 @@
 use borrow.Author.Needs.{needs}
 use borrow.Author.Tests.{lt-ltb, le-ltb, ne-eqb, eq-eqb}
 use mathlib.Core.Bool.{true, false}
-use mathlib.Core.Path.{_≡_, sym, _∙_}
+use mathlib.Core.Path.{_≡_, refl, sym, _∙_}
 use native.Mathlib.Omega.{arith}
 use denote.Ref.{now}
 use Rattle.model.specs.Answers.{first, table-grounds}
@@ -16,7 +16,7 @@ is-in-range-requires c κs = search needs
 
 returns : tie.Need-returns
 unfolding first table-grounds
-returns c = record { answer = rw (← c .before .is-in-range .ensures, c .if1 .taken); records = λ e. absurd (omega arith) }
+returns c = record { answer = rw (← c .before .is-in-range .ensures, c .if1 .taken); records = λ e. absurd (omega arith); refused = λ e. refl }
 
 returns-2 : tie.Need-returns-2
 unfolding first table-grounds
@@ -24,6 +24,7 @@ returns-2 c =
     record {
       answer = rw (← c .before .before .is-in-range .ensures, c .before .if1 .left, lt-ltb _ _ (c .if2 .taken));
       records = λ e. absurd (omega arith);
+      refused = λ e. refl;
     }
 
 walk-requires : tie.Need-walk-requires
@@ -38,6 +39,7 @@ returns-3 c =
           rw
           (← c3 .before .before .is-in-range .ensures, c3 .before .if1 .left, le-ltb _ _ (c3 .if2 .left), ne-eqb _ _ (λ e. c .if3 .taken (c .before .before .walk .ensures .bytes ∙ e)));
       records = λ e. absurd (omega arith);
+      refused = λ e. refl;
     }
 
 returns-4 : tie.Need-returns-4
@@ -50,6 +52,7 @@ returns-4 c =
           rw
           (← c3 .before .before .is-in-range .ensures, c3 .before .if1 .left, le-ltb _ _ (c3 .if2 .left), eq-eqb _ _ (sym (told .bytes) ∙ c .if3 .left));
       records = λ e. told .records;
+      refused = λ e. absurd (e refl);
     }
 
 pub judge-spec : {M : Type 1} → statement M
