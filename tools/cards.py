@@ -124,14 +124,23 @@ STEPS = [
     ("entry with VPID 0 enabled", root(), A, entry(1, 0, 0, 0, 1, 0), 10, 0, REFUSED),
 ]
 
-# name, context, table, mode, address, k, answer, part
+# the context after those steps that change it
+AFTER = {
+    "PCID 4,095 in an event": (CAPABILITY, 52, 4095, 0, 1, 0, 0, 0),
+    "empty table, reset": OUTSIDE,
+    "entry without VPIDs takes VPID 0": (CAPABILITY, 52, 1, 0, 2, 0, 0, 0),
+    "entry with VPIDs takes nothing": (CAPABILITY, 52, 1, 0, 2, 5, 0, 0),
+    "exit of a guest without VPIDs takes VPID 0": (CAPABILITY, 52, 0, 0, 1, 0, 0, 0),
+}
+
+# name, context, table, mode, address, k, answer, start, part
 LOOKUPS = [
-    ("A at 12345678h", GUEST, A + G, 1, 0x12345678, 0, 0, A),
-    ("nothing more at 12345678h", GUEST, A + G, 1, 0x12345678, 1, 0, b""),
-    ("a structure cache counts too", GUEST, A + linear_structure(5, 1, 1, 0x12200), 1, 0x12345678, 1, 0, linear_structure(5, 1, 1, 0x12200)),
-    ("G at guest-physical 10000h", EPT_GUEST, A + G, 2, 0x10000, 0, 0, G),
-    ("G with EPT off", GUEST, A + G, 2, 0x10000, 0, 0, b""),
-    ("an invalid table", GUEST, A[:16], 1, 0x12345678, 0, 3, b""),
+    ("A at 12345678h", GUEST, A + G, 1, 0x12345678, 0, 0, 0, A),
+    ("nothing more at 12345678h", GUEST, A + G, 1, 0x12345678, 1, 0, 0, b""),
+    ("a structure cache counts too", GUEST, A + linear_structure(5, 1, 1, 0x12200), 1, 0x12345678, 1, 0, 17, linear_structure(5, 1, 1, 0x12200)),
+    ("G at guest-physical 10000h", EPT_GUEST, A + G, 2, 0x10000, 0, 0, 17, G),
+    ("G with EPT off", GUEST, A + G, 2, 0x10000, 0, 0, 0, b""),
+    ("an invalid table", GUEST, A[:16], 1, 0x12345678, 0, 3, 0, b""),
 ]
 
 
@@ -147,10 +156,11 @@ def main():
         given += card(name, 0, context, table, event)
         kept = new or b""
         buffer = kept + bytes([0xEE]) * (64 - len(kept))
-        expected += f"{name}: {answer} {dropped} {len(kept)} {buffer.hex()}\n"
-    for name, context, table, mode, address, k, answer, part in LOOKUPS:
+        after = " ".join(str(x) for x in AFTER.get(name, context))
+        expected += f"{name}: {answer} {dropped} {len(kept)} {after} {buffer.hex()}\n"
+    for name, context, table, mode, address, k, answer, start, part in LOOKUPS:
         given += card(name, mode, context, table, le(8, address) + le(8, k))
-        expected += f"{name}: {answer} {part.hex()}\n"
+        expected += f"{name}: {answer} {start} {len(part)} {part.hex()}\n"
     crate = os.path.join(os.path.dirname(__file__), "..", "crates", "cards")
     with open(os.path.join(crate, "stdin"), "wb") as f:
         f.write(given)

@@ -2,17 +2,63 @@
 // the lowest number that applies is given.
 use model::Context;
 use model::Entry;
+use model::Ept;
 use model::Event;
 use model::Mapping;
 use model::Operands;
+use model::Place;
 ghost use mathlib.Core.Path.{_≡_};
 ghost use Prim.Native.Nat.{_/_, _^_};
 ghost use mathlib.Core.Bool.{cond};
 ghost use lib.Dec.{eqb};
-ghost use Rattle.model.specs.Answers.{kind-number, good-eptp, invvpid-supported, bad-invvpid, invept-supported, bad-invept, invalid-opcode, exits, general-protection, invalid-operand, out-of-place, bad-entry, entry-fails, creatable, creation-fails, event-answer};
+ghost use Rattle.model.specs.Context.{outside, in-root, in-guest};
+ghost use Rattle.model.specs.Answers.{kind-number, ept-in-use, good-eptp, invvpid-supported, bad-invvpid, invept-supported, bad-invept, invalid-opcode, exits, general-protection, invalid-operand, out-of-place, bad-entry, entry-fails, creatable, creation-fails, event-answer};
+
+// The place is outside VMX operation.
+fn is_outside(place: Place) -> bool
+    ensures { λ r. ⌜ r ≡ outside place ⌝ }
+{
+    match place {
+        Place::Outside => true,
+        Place::Root => false,
+        Place::Guest(_) => false,
+    }
+}
+
+// The place is VMX root operation.
+fn is_in_root(place: Place) -> bool
+    ensures { λ r. ⌜ r ≡ in-root place ⌝ }
+{
+    match place {
+        Place::Outside => false,
+        Place::Root => true,
+        Place::Guest(_) => false,
+    }
+}
+
+// The place is a guest.
+fn is_in_guest(place: Place) -> bool
+    ensures { λ r. ⌜ r ≡ in-guest place ⌝ }
+{
+    match place {
+        Place::Outside => false,
+        Place::Root => false,
+        Place::Guest(_) => true,
+    }
+}
+
+// EPT is in use.
+fn is_ept_in_use(ept: Ept) -> bool
+    ensures { λ r. ⌜ r ≡ ept-in-use ept ⌝ }
+{
+    match ept {
+        Ept::Off => false,
+        Ept::On(_) => true,
+    }
+}
 
 // The kind of an event.
-pub fn kind_of_event(e: Event) -> u64
+fn kind_of_event(e: Event) -> u64
     ensures { λ r. ⌜ r ≡ kind-number e ⌝ }
 {
     match e {
@@ -41,7 +87,7 @@ fn is_within_width(eptp: u64, width: u64) -> bool
 }
 
 // The EPTP is good under the context's capability and width.
-pub fn is_good_eptp(c: Context, eptp: u64) -> bool
+fn is_good_eptp(c: Context, eptp: u64) -> bool
     ensures { λ r. ⌜ r ≡ good-eptp c eptp ⌝ }
 {
     let capability = c.capability;
@@ -55,7 +101,7 @@ pub fn is_good_eptp(c: Context, eptp: u64) -> bool
 }
 
 // The capability has this INVVPID type.
-pub fn is_invvpid_supported(capability: u64, type_number: u64) -> bool
+fn is_invvpid_supported(capability: u64, type_number: u64) -> bool
     ensures { λ r. ⌜ r ≡ invvpid-supported capability «type_number» ⌝ }
 {
     match type_number {
@@ -68,7 +114,7 @@ pub fn is_invvpid_supported(capability: u64, type_number: u64) -> bool
 }
 
 // The operands of an INVVPID are invalid.
-pub fn is_bad_invvpid(c: Context, o: Operands) -> bool
+fn is_bad_invvpid(c: Context, o: Operands) -> bool
     ensures { λ r. ⌜ r ≡ bad-invvpid c o ⌝ }
 {
     let type_number = o.type_number;
@@ -81,7 +127,7 @@ pub fn is_bad_invvpid(c: Context, o: Operands) -> bool
 }
 
 // The capability has this INVEPT type.
-pub fn is_invept_supported(capability: u64, type_number: u64) -> bool
+fn is_invept_supported(capability: u64, type_number: u64) -> bool
     ensures { λ r. ⌜ r ≡ invept-supported capability «type_number» ⌝ }
 {
     match type_number {
@@ -92,7 +138,7 @@ pub fn is_invept_supported(capability: u64, type_number: u64) -> bool
 }
 
 // The operands of an INVEPT are invalid.
-pub fn is_bad_invept(c: Context, o: Operands) -> bool
+fn is_bad_invept(c: Context, o: Operands) -> bool
     ensures { λ r. ⌜ r ≡ bad-invept c o ⌝ }
 {
     let type_number = o.type_number;
@@ -102,30 +148,30 @@ pub fn is_bad_invept(c: Context, o: Operands) -> bool
 }
 
 // 5: the event is an undefined opcode here.
-pub fn is_invalid_opcode(c: Context, e: Event) -> bool
+fn is_invalid_opcode(c: Context, e: Event) -> bool
     ensures { λ r. ⌜ r ≡ invalid-opcode c e ⌝ }
 {
     let kind = kind_of_event(e);
     let capability = c.capability;
     let place = c.place;
     let needs_vmx = (kind == 16) | ((kind == 17) | ((kind == 20) | (kind == 23)));
-    (needs_vmx & contexts::is_outside(place))
+    (needs_vmx & is_outside(place))
         | ((kind == 16) & !((capability >> 32) % 2 == 1))
         | ((kind == 17) & !((capability >> 20) % 2 == 1))
 }
 
 // 6: the event causes a VM exit here.
-pub fn is_exiting(c: Context, e: Event) -> bool
+fn is_exiting(c: Context, e: Event) -> bool
     ensures { λ r. ⌜ r ≡ exits c e ⌝ }
 {
     let kind = kind_of_event(e);
     let place = c.place;
     ((kind == 16) | ((kind == 17) | ((kind == 20) | ((kind == 22) | (kind == 23)))))
-        & contexts::is_in_guest(place)
+        & is_in_guest(place)
 }
 
 // 7: the event is a general-protection fault here.
-pub fn is_protected(c: Context, e: Event) -> bool
+fn is_general_protection(c: Context, e: Event) -> bool
     ensures { λ r. ⌜ r ≡ general-protection c e ⌝ }
 {
     let kind = kind_of_event(e);
@@ -135,7 +181,7 @@ pub fn is_protected(c: Context, e: Event) -> bool
 }
 
 // 8: the event has invalid operands here.
-pub fn is_invalid_operand(c: Context, e: Event) -> bool
+fn is_invalid_operand(c: Context, e: Event) -> bool
     ensures { λ r. ⌜ r ≡ invalid-operand c e ⌝ }
 {
     match e {
@@ -146,27 +192,27 @@ pub fn is_invalid_operand(c: Context, e: Event) -> bool
 }
 
 // 9: the event has no place here.
-pub fn is_out_of_place(c: Context, e: Event) -> bool
+fn is_out_of_place(c: Context, e: Event) -> bool
     ensures { λ r. ⌜ r ≡ out-of-place c e ⌝ }
 {
     let kind = kind_of_event(e);
     let place = c.place;
     let ept = contexts::ept(place);
-    let in_root = contexts::is_in_root(place);
-    let in_guest = contexts::is_in_guest(place);
-    let in_use = contexts::is_ept_in_use(ept);
+    let in_root = is_in_root(place);
+    let in_guest = is_in_guest(place);
+    let in_use = is_ept_in_use(ept);
     ((kind == 22) & in_root) | ((kind == 21) & !in_guest) | ((kind == 19) & !in_use)
 }
 
 // The fields of a VM entry fail it.
-pub fn is_bad_entry(c: Context, n: Entry) -> bool
+fn is_bad_entry(c: Context, n: Entry) -> bool
     ensures { λ r. ⌜ r ≡ bad-entry c n ⌝ }
 {
     ((n.vpids == 1) & (n.vpid == 0)) | ((n.ept == 1) & !is_good_eptp(c, n.eptp))
 }
 
 // 10: the event is a VM entry that fails.
-pub fn is_failing_entry(c: Context, e: Event) -> bool
+fn is_failing_entry(c: Context, e: Event) -> bool
     ensures { λ r. ⌜ r ≡ entry-fails c e ⌝ }
 {
     match e {
@@ -176,7 +222,7 @@ pub fn is_failing_entry(c: Context, e: Event) -> bool
 }
 
 // The mapping can be created here.
-pub fn is_creatable(c: Context, m: Mapping) -> bool
+fn is_creatable(c: Context, m: Mapping) -> bool
     ensures { λ r. ⌜ r ≡ creatable c m ⌝ }
 {
     let kind = m.kind;
@@ -184,7 +230,7 @@ pub fn is_creatable(c: Context, m: Mapping) -> bool
     let place = c.place;
     let ept = contexts::ept(place);
     let same_vpid = m.vpid == contexts::vpid(place);
-    let in_use = contexts::is_ept_in_use(ept);
+    let in_use = is_ept_in_use(ept);
     let current = contexts::is_current_ep4ta(ept, m.ep4ta);
     (((kind == 1) | (kind == 4)) & !in_use & same_vpid & same_pcid)
         | (((kind == 2) | (kind == 5)) & current)
@@ -192,7 +238,7 @@ pub fn is_creatable(c: Context, m: Mapping) -> bool
 }
 
 // 11: the event is a creation that cannot be made here.
-pub fn is_failing_creation(c: Context, e: Event) -> bool
+fn is_failing_creation(c: Context, e: Event) -> bool
     ensures { λ r. ⌜ r ≡ creation-fails c e ⌝ }
 {
     match e {
@@ -244,7 +290,7 @@ pub fn answer_to_event(c: Context, e: Event) -> u64
     first_ground(
         is_invalid_opcode(c, e),
         is_exiting(c, e),
-        is_protected(c, e),
+        is_general_protection(c, e),
         is_invalid_operand(c, e),
         is_out_of_place(c, e),
         is_failing_entry(c, e),

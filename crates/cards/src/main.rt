@@ -1,10 +1,13 @@
 // The cards of document 01 and its five mistakes, run on the code. They come from standard input, the
 // file stdin, and what is expected, the file stdout, was written from the document; tools/cards.py has
-// the format. Each line is a card's name, the answer, the dropped count, the length, and the new
-// buffer, which held ee in every byte; for a lookup the answer and the part.
+// the format. Each line is a card's name, the answer, the dropped count, the length, the context's eight
+// numbers, and the new buffer, which held ee in every byte; for a lookup the answer, the start, the
+// length and the part.
 use libc::STDIN_FILENO;
 use libc::STDOUT_FILENO;
+use model::Address;
 use skuldrefn::FlatContext;
+use skuldrefn::FlatPart;
 ghost use Prim.Native.Nat.{_+_, _≤_};
 ghost use lib.ListN.{length};
 
@@ -35,6 +38,25 @@ fn context(s: &[u8]) -> FlatContext
     }
 }
 
+// A context as its eight numbers.
+fn write_context(c: FlatContext) {
+    write_number(c.capability);
+    write_number(c.width);
+    write_number(c.pcid);
+    write_number(c.cpl);
+    write_number(c.place);
+    write_number(c.vpid);
+    write_number(c.ept);
+    write_number(c.ep4ta);
+}
+
+// The answer of a lookup, and where the part starts and how long it is.
+fn write_found(found: FlatPart) {
+    write_number(found.answer);
+    write_number(found.start as u64);
+    write_number(found.length as u64);
+}
+
 // One step into a buffer of 64 bytes.
 fn step(c: FlatContext, table: &[u8], event: &[u8]) {
     let mut new = [238u8; 64];
@@ -42,18 +64,9 @@ fn step(c: FlatContext, table: &[u8], event: &[u8]) {
     write_number(s.answer);
     write_number(s.dropped as u64);
     write_number(s.length as u64);
+    let after = s.context;
+    write_context(after);
     write_hex(&new);
-}
-
-// The part of the table that a lookup shows.
-fn write_part(table: &[u8], answer: u64, start: usize, size: usize) {
-    write_number(answer);
-    if start <= table.len() {
-        if size <= table.len() - start {
-            let end = start + size;
-            write_hex(&table[start..end]);
-        }
-    }
 }
 
 // One lookup, of a linear address in mode 1 and a guest-physical one in any other; the question is the
@@ -64,12 +77,14 @@ fn look_up(c: FlatContext, mode: u8, table: &[u8], question: &[u8]) {
     }
     let address = numbers::number8(question, 0);
     let k = numbers::number8(question, 8);
-    let found = if mode == 1 {
-        skuldrefn::skuldrefn_lookup_linear(c, table, address, k)
+    let context = skuldrefn::context_of(c);
+    if mode == 1 {
+        write_found(skuldrefn::skuldrefn_lookup_linear(c, table, address, k));
+        write_hex(lookups::look_up(context, Address::Linear(address), table, k));
     } else {
-        skuldrefn::skuldrefn_lookup_guest_physical(c, table, address, k)
-    };
-    write_part(table, found.answer, found.start, found.length);
+        write_found(skuldrefn::skuldrefn_lookup_guest_physical(c, table, address, k));
+        write_hex(lookups::look_up(context, Address::GuestPhysical(address), table, k));
+    }
 }
 
 // Runs the card at the front and answers how many bytes it takes, or 0 where no whole card is left.

@@ -3,12 +3,11 @@ use model::Context;
 use model::Ept;
 use model::Place;
 ghost use mathlib.Core.Path.{_≡_};
-ghost use Rattle.model.specs.Context.{in-range, ept-in-range, place-in-range, outside, in-root, in-guest, current-vpid, current-ept};
-ghost use Rattle.model.specs.Answers.{ept-in-use};
+ghost use Rattle.model.specs.Context.{in-range, ept-in-range, place-in-range, current-vpid, current-ept};
 ghost use Rattle.model.specs.Scopes.{is-current-ep4ta};
 
 // The EPT state is off, or an EP4TA below 2^40.
-pub fn is_ept_in_range(ept: Ept) -> bool
+fn is_ept_in_range(ept: Ept) -> bool
     ensures { λ r. ⌜ r ≡ ept-in-range ept ⌝ }
 {
     match ept {
@@ -18,7 +17,7 @@ pub fn is_ept_in_range(ept: Ept) -> bool
 }
 
 // A guest's VPID and EPT state are in their ranges; the other places have no fields.
-pub fn is_place_in_range(place: Place) -> bool
+fn is_place_in_range(place: Place) -> bool
     ensures { λ r. ⌜ r ≡ place-in-range place ⌝ }
 {
     match place {
@@ -37,39 +36,6 @@ pub fn is_in_range(c: Context) -> bool
 {
     let place = c.place;
     (36 <= c.width) & (c.width <= 52) & (c.pcid <= 4095) & (c.cpl <= 3) & is_place_in_range(place)
-}
-
-// The place is outside VMX operation.
-pub fn is_outside(place: Place) -> bool
-    ensures { λ r. ⌜ r ≡ outside place ⌝ }
-{
-    match place {
-        Place::Outside => true,
-        Place::Root => false,
-        Place::Guest(_) => false,
-    }
-}
-
-// The place is VMX root operation.
-pub fn is_in_root(place: Place) -> bool
-    ensures { λ r. ⌜ r ≡ in-root place ⌝ }
-{
-    match place {
-        Place::Outside => false,
-        Place::Root => true,
-        Place::Guest(_) => false,
-    }
-}
-
-// The place is a guest.
-pub fn is_in_guest(place: Place) -> bool
-    ensures { λ r. ⌜ r ≡ in-guest place ⌝ }
-{
-    match place {
-        Place::Outside => false,
-        Place::Root => false,
-        Place::Guest(_) => true,
-    }
 }
 
 // The current VPID: the guest's, and 0 outside and in root.
@@ -91,16 +57,6 @@ pub fn ept(place: Place) -> Ept
         Place::Outside => Ept::Off,
         Place::Root => Ept::Off,
         Place::Guest(guest) => guest.ept,
-    }
-}
-
-// EPT is in use.
-pub fn is_ept_in_use(ept: Ept) -> bool
-    ensures { λ r. ⌜ r ≡ ept-in-use ept ⌝ }
-{
-    match ept {
-        Ept::Off => false,
-        Ept::On(_) => true,
     }
 }
 

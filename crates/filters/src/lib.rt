@@ -28,7 +28,7 @@ pub fn copy_run(table: &[u8], from: usize, at: usize, new: &mut [u8], to: usize)
 
 // Writes the records that are not in the event's scope to the front of the new buffer, in order. A run
 // of kept records is copied whole, when a dropped record or the end of the table ends it.
-pub fn keep(c: Context, e: Event, table: &[u8], new: &mut [u8]) -> Kept
+fn keep(c: Context, e: Event, table: &[u8], new: &mut [u8]) -> Kept
     requires { ⌜ whole (now table) ≡ true ⌝ }
     requires { ⌜ length (now table) ≤ length (now new) ⌝ }
     ensures { λ r. ⌜ Keeps c e (now (table .entry)) (now (new .entry)) (r .length) (r .dropped) (now (new .exit)) ⌝ }

@@ -30,7 +30,7 @@ fn put_number(n: u64, end: u8, out: &mut [u8], at: usize) -> usize
 
 // Writes the text of a line to the front of the buffer, and answers its length. The buffer's other
 // bytes stay.
-pub fn write_line(number: u64, answer: u64, dropped: u64, size: u64, out: &mut [u8; 84]) -> usize
+fn write_line(number: u64, answer: u64, dropped: u64, size: u64, out: &mut [u8; 84]) -> usize
     ensures { λ r. ⌜ r ≡ length (line-text number answer dropped size) ⌝ }
     ensures { λ _. ⌜ now (out .exit) ≡ overwritten (line-text number answer dropped size) (now (out .entry)) ⌝ }
 {

@@ -26,7 +26,7 @@ fn is_translating(ept: Ept, part: &[u8]) -> bool
 }
 
 // The record is usable at the address.
-pub fn is_usable(c: Context, a: Address, part: &[u8]) -> bool
+fn is_usable(c: Context, a: Address, part: &[u8]) -> bool
     requires { ⌜ Held (now part) ⌝ }
     ensures { λ r. ⌜ r ≡ usable c a (mapping (now (part .entry))) ⌝ }
 {
@@ -53,13 +53,13 @@ pub fn is_usable(c: Context, a: Address, part: &[u8]) -> bool
 }
 
 // Where a record starts and ends in a table.
-pub struct Found {
-    pub start: usize,
-    pub end: usize,
+struct Part {
+    start: usize,
+    end: usize,
 }
 
 // The start and end of the k-th usable record, or 0 and 0 where there is none.
-fn search(c: Context, a: Address, table: &[u8], k: u64) -> Found
+fn search(c: Context, a: Address, table: &[u8], k: u64) -> Part
     requires { ⌜ whole (now table) ≡ true ⌝ }
     ensures { λ r. ⌜ Searched c a (now (table .entry)) k (r .start) (r .end) ⌝ }
 {
@@ -67,13 +67,13 @@ fn search(c: Context, a: Address, table: &[u8], k: u64) -> Found
     let mut left = k;
     let found = loop {
         if table.len() <= at {
-            break Found { start: 0, end: 0 };
+            break Part { start: 0, end: 0 };
         }
         let part = &table[at..];
         let end = at + mappings::length_of_held(part);
         if is_usable(c, a, part) {
             if left == 0 {
-                break Found { start: at, end };
+                break Part { start: at, end };
             }
             left -= 1;
         }
@@ -89,27 +89,45 @@ pub fn answer_to_lookup(c: Context, table: &[u8]) -> u64
     tables::answer_to_table(c, table)
 }
 
-// Where the k-th usable record at the address starts and ends in the table; 0 and 0 where there is no
-// such record or the answer is not 0.
+// The answer to a lookup, and where the record starts and ends in the table.
+pub struct Found {
+    pub answer: u64,
+    pub start: usize,
+    pub end: usize,
+}
+
+// The answer, and where the k-th usable record at the address starts and ends in the table; 0 and 0
+// where there is no such record or the answer is not 0.
 pub fn find(c: Context, a: Address, table: &[u8], k: u64) -> Found
+    ensures { λ r. ⌜ r .answer ≡ lookup-answer c (now (table .entry)) ⌝ }
     ensures { λ r. ⌜ (r .start ≡ lookup-start c a (now (table .entry)) k) × (r .end ≡ lookup-start c a (now (table .entry)) k + length (lookup c a (now (table .entry)) k)) ⌝ }
 {
-    if answer_to_lookup(c, table) != 0 {
-        return Found { start: 0, end: 0 };
+    let answer = answer_to_lookup(c, table);
+    if answer != 0 {
+        return Found {
+            answer,
+            start: 0,
+            end: 0,
+        };
     }
-    search(c, a, table, k)
+    let found = search(c, a, table, k);
+    Found {
+        answer,
+        start: found.start,
+        end: found.end,
+    }
 }
 
 // The k-th usable record at the address, from 0, as that very part of the table. The part is empty
 // exactly if there is no such record or the answer is not 0.
-pub fn look_up<'a>(c: Context, table: &'a [u8], a: Address, k: u64) -> &'a [u8]
+pub fn look_up<'a>(c: Context, a: Address, table: &'a [u8], k: u64) -> &'a [u8]
     ensures { λ r. ⌜ (now r ≡ lookup c a (now (table .entry)) k) × (r .ptr ≡ (table .entry .ptr .0, lookup-start c a (now (table .entry)) k + table .entry .ptr .1)) ⌝ }
 {
     if answer_to_lookup(c, table) != 0 {
         return &table[..0];
     }
-    let found = search(c, a, table, k);
-    let start = found.start;
-    let end = found.end;
+    let part = search(c, a, table, k);
+    let start = part.start;
+    let end = part.end;
     &table[start..end]
 }

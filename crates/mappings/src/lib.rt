@@ -63,7 +63,7 @@ fn span_at(part: &[u8]) -> usize
 }
 
 // The span of the record at the front.
-pub fn span(part: &[u8]) -> u64
+fn span(part: &[u8]) -> u64
     requires { ⌜ Held (now part) ⌝ }
     ensures { λ r. ⌜ r ≡ mapping (now (part .entry)) .span ⌝ }
 {
@@ -71,7 +71,7 @@ pub fn span(part: &[u8]) -> u64
 }
 
 // The page of the record at the front.
-pub fn page(part: &[u8]) -> u64
+fn page(part: &[u8]) -> u64
     requires { ⌜ Held (now part) ⌝ }
     ensures { λ r. ⌜ r ≡ mapping (now (part .entry)) .page ⌝ }
 {
@@ -79,7 +79,7 @@ pub fn page(part: &[u8]) -> u64
 }
 
 // The frame of the record at the front, or its structure.
-pub fn frame(part: &[u8]) -> u64
+fn frame(part: &[u8]) -> u64
     requires { ⌜ Held (now part) ⌝ }
     ensures { λ r. ⌜ r ≡ mapping (now (part .entry)) .frame ⌝ }
 {
@@ -153,7 +153,7 @@ pub fn pcid(part: &[u8]) -> u64
 }
 
 // The global mark of the record at the front; 0 where its kind has none.
-pub fn global(part: &[u8]) -> u64
+fn global(part: &[u8]) -> u64
     requires { ⌜ Held (now part) ⌝ }
     ensures { λ r. ⌜ r ≡ mapping (now (part .entry)) .global ⌝ }
 {
@@ -190,11 +190,13 @@ pub fn is_covering(part: &[u8], p: u64) -> bool
     requires { ⌜ Held (now part) ⌝ }
     ensures { λ r. ⌜ r ≡ covers (mapping (now (part .entry)) .span) (mapping (now (part .entry)) .page) p ⌝ }
 {
-    addresses::is_covered(span(part), page(part), p)
+    let span = span(part);
+    let page = page(part);
+    addresses::is_covered(span, page, p)
 }
 
 // The mapping that a held record says.
-pub fn mapping_of(part: &[u8]) -> Mapping
+fn mapping_of(part: &[u8]) -> Mapping
     requires { ⌜ Held (now part) ⌝ }
     ensures { λ r. ⌜ r ≡ mapping (now (part .entry)) ⌝ }
 {

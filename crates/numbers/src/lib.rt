@@ -16,7 +16,8 @@ pub fn number1(s: &[u8], at: usize) -> u64
     requires { ⌜ at < length (now s) ⌝ }
     ensures { λ r. ⌜ (r ≡ number 1 at (now (s .entry))) × (r < 256) ⌝ }
 {
-    wide(s[at])
+    let byte = s[at];
+    wide(byte)
 }
 
 // The number of the two bytes at a position.
@@ -28,7 +29,7 @@ pub fn number2(s: &[u8], at: usize) -> u64
 }
 
 // The number of the four bytes at a position.
-pub fn number4(s: &[u8], at: usize) -> u64
+fn number4(s: &[u8], at: usize) -> u64
     requires { ⌜ at + 4 ≤ length (now s) ⌝ }
     ensures { λ r. ⌜ (r ≡ number 4 at (now (s .entry))) × (r < 2 ^ 32) ⌝ }
 {

@@ -60,7 +60,7 @@ fn length_of_kind(kind: u8, other: usize) -> usize
 
 // How many bytes the first event of a log takes: as many as its kind says, or all that are left where
 // the kind is unknown or the record is cut.
-pub fn size_of_event(log: &[u8]) -> usize
+fn size_of_event(log: &[u8]) -> usize
     ensures { λ r. ⌜ r ≡ event-size (now (log .entry)) ⌝ }
 {
     let size = log.len();

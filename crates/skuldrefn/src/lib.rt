@@ -62,8 +62,8 @@ fn place_of(c: FlatContext) -> Place
     })
 }
 
-// The context that the numbers stand for.
-fn context_of(c: FlatContext) -> Context
+// The context that the numbers stand for. Those that stand for nothing are read as a guest without EPT.
+pub fn context_of(c: FlatContext) -> Context
     ensures { λ r. ⌜ r ≡ unflatten c ⌝ }
 {
     let place = place_of(c);
@@ -158,7 +158,7 @@ pub struct FlatPart {
 }
 
 // The lookup of an address.
-fn look_up(context: FlatContext, table: &[u8], a: Address, k: u64) -> FlatPart
+fn look_up(context: FlatContext, a: Address, table: &[u8], k: u64) -> FlatPart
     ensures { λ r. ⌜ r ≡ flat-lookup context a (now (table .entry)) k ⌝ }
 {
     if !is_known(context) {
@@ -168,12 +168,12 @@ fn look_up(context: FlatContext, table: &[u8], a: Address, k: u64) -> FlatPart
             length: 0,
         };
     }
-    let c = context_of(context);
-    let found = lookups::find(c, a, table, k);
+    let found = lookups::find(context_of(context), a, table, k);
+    let length = found.end - found.start;
     FlatPart {
-        answer: lookups::answer_to_lookup(c, table),
+        answer: found.answer,
         start: found.start,
-        length: found.end - found.start,
+        length,
     }
 }
 
@@ -187,7 +187,7 @@ pub extern "C" fn skuldrefn_lookup_linear(
 ) -> FlatPart
     ensures { λ r. ⌜ r ≡ flat-lookup context (Address.Linear address) (now (table .entry)) k ⌝ }
 {
-    look_up(context, table, Address::Linear(address), k)
+    look_up(context, Address::Linear(address), table, k)
 }
 
 // The k-th record, from 0, that is usable at a guest-physical address, as a part of the table.
@@ -200,7 +200,7 @@ pub extern "C" fn skuldrefn_lookup_guest_physical(
 ) -> FlatPart
     ensures { λ r. ⌜ r ≡ flat-lookup context (Address.GuestPhysical address) (now (table .entry)) k ⌝ }
 {
-    look_up(context, table, Address::GuestPhysical(address), k)
+    look_up(context, Address::GuestPhysical(address), table, k)
 }
 
 // What a replay leaves: the context, the length of the table in force, whether the first of the two

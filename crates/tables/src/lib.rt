@@ -1,8 +1,6 @@
 // The walk over a table: whole, valid records or not, and the answers 1 to 3.
 use model::Context;
 ghost use mathlib.Core.Path.{_≡_};
-ghost use lib.ListN.{length};
-ghost use Rattle.model.specs.Tables.{joined, records, whole};
 ghost use Rattle.model.specs.Answers.{first, table-grounds};
 ghost use Rattle.tables.specs.Walk.{Tells};
 ghost use Rattle.tables.specs.Judged.{Judges};
@@ -35,22 +33,6 @@ fn walk(table: &[u8]) -> Passed
         records += 1;
     }
     Passed { bytes: at, records }
-}
-
-// How many bytes at the front of the table are whole, valid records: all of them exactly if the table
-// is valid.
-pub fn extent(table: &[u8]) -> usize
-    ensures { λ r. ⌜ r ≡ length (joined (records (now (table .entry)))) ⌝ }
-{
-    let passed = walk(table);
-    passed.bytes
-}
-
-// The table is whole, valid records.
-pub fn is_whole(table: &[u8]) -> bool
-    ensures { λ r. ⌜ r ≡ whole (now (table .entry)) ⌝ }
-{
-    extent(table) == table.len()
 }
 
 // The answer that a context and a table alone give: 1, 2 or 3, else 0; and the number of records, 0 where

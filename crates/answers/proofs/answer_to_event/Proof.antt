@@ -9,7 +9,7 @@ returns c =
       c .first-ground .ensures,
       c .before .before .before .before .before .before .before .is-invalid-opcode .ensures,
       c .before .before .before .before .before .before .is-exiting .ensures,
-      c .before .before .before .before .before .is-protected .ensures,
+      c .before .before .before .before .before .is-general-protection .ensures,
       c .before .before .before .before .is-invalid-operand .ensures,
       c .before .before .before .is-out-of-place .ensures,
       c .before .before .is-failing-entry .ensures,

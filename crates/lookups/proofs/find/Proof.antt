@@ -16,7 +16,7 @@ returns : tie.Need-returns
 unfolding lookup lookup-start
 returns c =
     let not-0 = ne-eqb _ _ (λ e. c .if1 .taken (c .before .answer-to-lookup .ensures ∙ e)) in
-    rw not-0 (omega arith, omega arith)
+    (c .before .answer-to-lookup .ensures, rw not-0 (omega arith, omega arith))
 
 search-requires : tie.Need-search-requires
 search-requires c κs = answered-whole _ _ (sym (c .before .answer-to-lookup .ensures) ∙ c .if1 .left)
@@ -27,7 +27,7 @@ returns-2 c =
     let is-0 = eq-eqb _ _ (sym (c .before .before .answer-to-lookup .ensures) ∙ c .before .if1 .left) in
     let found = c .search .ensures in
     let end = end-of-part (now (c .before .before .before .before .args .table)) _ (c .search .result .start) (c .search .result .end) (found .ordered) (found .within) (found .part) in
-    rw (is-0, ← (found .place)) (refl, end)
+    (c .before .before .answer-to-lookup .ensures, rw (is-0, ← (found .place)) (refl, end))
 
 pub find-spec : {M : Type 1} → statement M
 find-spec = tie.close (tie.spec answer-to-lookup-requires returns search-requires returns-2)
