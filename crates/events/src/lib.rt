@@ -8,6 +8,7 @@ use model::Reading;
 use model::Violation;
 ghost use mathlib.Core.Path.{_≡_};
 ghost use mathlib.Core.Bool.{true};
+ghost use mathlib.Core.Logic.{_⊎_};
 ghost use Rattle.model.specs.Layouts.{kind-of, mapping-kind};
 ghost use Rattle.model.specs.Events.{event-reading};
 
@@ -28,34 +29,24 @@ fn read_creation(e: &[u8]) -> EventReading
     }
 }
 
-// The INVVPID that the bytes of its kind are.
-fn read_invvpid(e: &[u8]) -> EventReading
-    requires { ⌜ kind-of (now e) ≡ 16 ⌝ }
+// The INVVPID or INVEPT that the bytes of its kind are.
+fn read_invalidation(e: &[u8]) -> EventReading
+    requires { ⌜ (kind-of (now e) ≡ 16) ⊎ (kind-of (now e) ≡ 17) ⌝ }
     ensures { λ r. ⌜ r ≡ event-reading (now (e .entry)) ⌝ }
 {
     if e.len() != 25 {
         return EventReading::Invalid;
     }
-    EventReading::Read(Event::Invvpid(Operands {
+    let operands = Operands {
         type_number: numbers::number8(e, 1),
         low: numbers::number8(e, 9),
         high: numbers::number8(e, 17),
-    }))
-}
-
-// The INVEPT that the bytes of its kind are.
-fn read_invept(e: &[u8]) -> EventReading
-    requires { ⌜ kind-of (now e) ≡ 17 ⌝ }
-    ensures { λ r. ⌜ r ≡ event-reading (now (e .entry)) ⌝ }
-{
-    if e.len() != 25 {
-        return EventReading::Invalid;
+    };
+    if e[0] == 16 {
+        EventReading::Read(Event::Invvpid(operands))
+    } else {
+        EventReading::Read(Event::Invept(operands))
     }
-    EventReading::Read(Event::Invept(Operands {
-        type_number: numbers::number8(e, 1),
-        low: numbers::number8(e, 9),
-        high: numbers::number8(e, 17),
-    }))
 }
 
 // The INVLPG that the bytes of its kind are.
@@ -166,8 +157,8 @@ pub fn read_event(e: &[u8]) -> EventReading
     }
     match e[0] {
         1 | 2 | 3 | 4 | 5 | 6 => read_creation(e),
-        16 => read_invvpid(e),
-        17 => read_invept(e),
+        16 => read_invalidation(e),
+        17 => read_invalidation(e),
         18 => read_invlpg(e),
         19 => read_violation(e),
         20 => read_entry(e),

@@ -1,4 +1,5 @@
 -- Each arm's kind is what its reader requires; kinds 22, 23 and 25 have a kind byte alone.
+use mathlib.Core.Logic.{inl, inr}
 use mathlib.Core.Path.{refl}
 use native.Mathlib.Omega.{arith}
 use borrow.Author.Needs.{needs}
@@ -14,13 +15,13 @@ returns c = invalid-empty _ (c .if1 .taken)
 shared-slice-read-match : tie.Need-shared-slice-read-match
 shared-slice-read-match c = search needs
 
-read-invvpid-requires : tie.Need-read-invvpid-requires
+read-invalidation-requires : tie.Need-read-invalidation-requires
 unfolding kind-of
-read-invvpid-requires c κs = c .match .keys1
+read-invalidation-requires c κs = inl (c .match .keys1)
 
-read-invept-requires : tie.Need-read-invept-requires
+read-invalidation-requires-2 : tie.Need-read-invalidation-requires-2
 unfolding kind-of
-read-invept-requires c κs = c .match .keys2
+read-invalidation-requires-2 c κs = inr (c .match .keys2)
 
 read-invlpg-requires : tie.Need-read-invlpg-requires
 unfolding kind-of
@@ -108,8 +109,8 @@ read-event-spec =
     (tie.spec
     returns
     shared-slice-read-match
-    read-invvpid-requires
-    read-invept-requires
+    read-invalidation-requires
+    read-invalidation-requires-2
     read-invlpg-requires
     read-violation-requires
     read-entry-requires
