@@ -1,18 +1,14 @@
 // The answers that a context and an event alone give: 5 to 11. Each ground is a function of its own;
 // the lowest number that applies is given.
 use model::Context;
-use model::Entry;
 use model::Ept;
 use model::Event;
 use model::Mapping;
-use model::Operands;
 use model::Place;
 ghost use mathlib.Core.Path.{_≡_};
-ghost use Prim.Native.Nat.{_/_, _^_};
 ghost use mathlib.Core.Bool.{cond};
-ghost use lib.Dec.{eqb};
 ghost use Rattle.model.specs.Context.{outside, in-root, in-guest};
-ghost use Rattle.model.specs.Answers.{kind-number, ept-in-use, good-eptp, invvpid-supported, bad-invvpid, invept-supported, bad-invept, invalid-opcode, exits, general-protection, invalid-operand, out-of-place, bad-entry, entry-fails, creatable, creation-fails, event-answer};
+ghost use Rattle.model.specs.Answers.{kind-number, ept-in-use, invalid-opcode, exits, general-protection, invalid-operand, out-of-place, entry-fails, creatable, creation-fails, event-answer};
 
 // The place is outside VMX operation.
 fn is_outside(place: Place) -> bool
@@ -76,77 +72,6 @@ fn kind_of_event(e: Event) -> u64
     }
 }
 
-// Bits 63 to N of an EPTP are zero.
-fn is_within_width(eptp: u64, width: u64) -> bool
-    ensures { λ r. ⌜ r ≡ eqb (eptp / 2 ^ width) 0 ⌝ }
-{
-    if 64 <= width {
-        return true;
-    }
-    (eptp >> width) == 0
-}
-
-// The EPTP is good under the context's capability and width.
-fn is_good_eptp(c: Context, eptp: u64) -> bool
-    ensures { λ r. ⌜ r ≡ good-eptp c eptp ⌝ }
-{
-    let capability = c.capability;
-    let memory_type = eptp % 8;
-    (((memory_type == 0) & ((capability >> 8) % 2 == 1))
-        | ((memory_type == 6) & ((capability >> 14) % 2 == 1)))
-        & (((eptp >> 3) % 8 == 3) & ((capability >> 6) % 2 == 1))
-        & (!((eptp >> 6) % 2 == 1) | ((capability >> 21) % 2 == 1))
-        & ((eptp >> 7) % 32 == 0)
-        & is_within_width(eptp, c.width)
-}
-
-// The capability has this INVVPID type.
-fn is_invvpid_supported(capability: u64, type_number: u64) -> bool
-    ensures { λ r. ⌜ r ≡ invvpid-supported capability «type_number» ⌝ }
-{
-    match type_number {
-        0 => (capability >> 40) % 2 == 1,
-        1 => (capability >> 41) % 2 == 1,
-        2 => (capability >> 42) % 2 == 1,
-        3 => (capability >> 43) % 2 == 1,
-        _ => false,
-    }
-}
-
-// The operands of an INVVPID are invalid.
-fn is_bad_invvpid(c: Context, o: Operands) -> bool
-    ensures { λ r. ⌜ r ≡ bad-invvpid c o ⌝ }
-{
-    let type_number = o.type_number;
-    let named = o.low % 65536;
-    let reserved = (o.low >> 16) % 281474976710656;
-    !is_invvpid_supported(c.capability, type_number)
-        | !(reserved == 0)
-        | ((named == 0) & !(type_number == 2))
-        | ((type_number == 0) & !addresses::is_canonical(o.high))
-}
-
-// The capability has this INVEPT type.
-fn is_invept_supported(capability: u64, type_number: u64) -> bool
-    ensures { λ r. ⌜ r ≡ invept-supported capability «type_number» ⌝ }
-{
-    match type_number {
-        1 => (capability >> 25) % 2 == 1,
-        2 => (capability >> 26) % 2 == 1,
-        _ => false,
-    }
-}
-
-// The operands of an INVEPT are invalid.
-fn is_bad_invept(c: Context, o: Operands) -> bool
-    ensures { λ r. ⌜ r ≡ bad-invept c o ⌝ }
-{
-    let type_number = o.type_number;
-    !is_invept_supported(c.capability, type_number)
-        | !(o.high == 0)
-        | ((type_number == 1) & !is_good_eptp(c, o.low))
-}
-
 // 5: the event is an undefined opcode here.
 fn is_invalid_opcode(c: Context, e: Event) -> bool
     ensures { λ r. ⌜ r ≡ invalid-opcode c e ⌝ }
@@ -185,8 +110,8 @@ fn is_invalid_operand(c: Context, e: Event) -> bool
     ensures { λ r. ⌜ r ≡ invalid-operand c e ⌝ }
 {
     match e {
-        Event::Invvpid(o) => is_bad_invvpid(c, o),
-        Event::Invept(o) => is_bad_invept(c, o),
+        Event::Invvpid(o) => operands::is_bad_invvpid(c, o),
+        Event::Invept(o) => operands::is_bad_invept(c, o),
         _ => false,
     }
 }
@@ -204,19 +129,12 @@ fn is_out_of_place(c: Context, e: Event) -> bool
     ((kind == 22) & in_root) | ((kind == 21) & !in_guest) | ((kind == 19) & !in_use)
 }
 
-// The fields of a VM entry fail it.
-fn is_bad_entry(c: Context, n: Entry) -> bool
-    ensures { λ r. ⌜ r ≡ bad-entry c n ⌝ }
-{
-    ((n.vpids == 1) & (n.vpid == 0)) | ((n.ept == 1) & !is_good_eptp(c, n.eptp))
-}
-
 // 10: the event is a VM entry that fails.
 fn is_failing_entry(c: Context, e: Event) -> bool
     ensures { λ r. ⌜ r ≡ entry-fails c e ⌝ }
 {
     match e {
-        Event::Entry(n) => is_bad_entry(c, n),
+        Event::Entry(n) => operands::is_bad_entry(c, n),
         _ => false,
     }
 }

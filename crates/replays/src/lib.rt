@@ -148,7 +148,7 @@ pub fn replay(
     ensures { λ r. ⌜ (limit ≤ length (now (first .entry)) → limit ≤ length (now (second .entry)) → ByTheBook c (now (log .entry)) (now (rows .entry)) r (now (first .exit)) (now (second .exit)) (now (rows .exit))) ⌝ }
 {
     let mut state = State {
-        context: scopes::reset(c),
+        context: transitions::reset(c),
         length: 0,
         first: true,
     };

@@ -1,17 +1,12 @@
-// The required scope of each event, and the context after it. A record is handed in as the part of
-// the table that starts at its kind byte, and only the fields that an event asks for are read.
+// The required scope of each event. A record is handed in as the part of the table that starts at its
+// kind byte, and only the fields that an event asks for are read.
 use model::Context;
-use model::Entry;
-use model::Ept;
 use model::Event;
-use model::GuestPlace;
 use model::Operands;
-use model::Place;
 use model::Violation;
 ghost use mathlib.Core.Path.{_≡_};
-ghost use Rattle.model.specs.Context.{after-reset};
 ghost use Rattle.model.specs.Mappings.{mapping};
-ghost use Rattle.model.specs.Scopes.{vpid-tagged, invvpid-scope, invept-scope, invlpg-scope, guest-physical-violation-scope, combined-violation-scope, transition-scope, scope, entered, next-context, moved};
+ghost use Rattle.model.specs.Scopes.{vpid-tagged, invvpid-scope, invept-scope, invlpg-scope, guest-physical-violation-scope, combined-violation-scope, transition-scope, scope};
 ghost use Rattle.mappings.specs.Held.{Held};
 ghost use Rattle.scopes.specs.NoScope.{without-scope};
 
@@ -200,66 +195,5 @@ pub fn is_without_scope(c: Context, e: Event) -> bool
         Event::Invept(_) => false,
         Event::EptViolation(_) => false,
         Event::Reset => false,
-    }
-}
-
-// The guest place that a VM entry gives. A disabled VPID or EPT field is not looked at.
-fn place_entered(n: Entry) -> Place
-    ensures { λ r. ⌜ r ≡ entered n ⌝ }
-{
-    let vpid = if n.vpids == 1 { n.vpid } else { 0 };
-    let ept = if n.ept == 1 {
-        Ept::On((n.eptp >> 12) % 1099511627776)
-    } else {
-        Ept::Off
-    };
-    Place::Guest(GuestPlace { vpid, ept })
-}
-
-// The context after a reset: outside, PCID 0, CPL 0; capability and width stay.
-pub fn reset(c: Context) -> Context
-    ensures { λ r. ⌜ r ≡ after-reset c ⌝ }
-{
-    Context {
-        capability: c.capability,
-        width: c.width,
-        pcid: 0,
-        cpl: 0,
-        place: Place::Outside,
-    }
-}
-
-// The context at another PCID, CPL and place.
-fn moved_to(c: Context, pcid: u64, cpl: u64, place: Place) -> Context
-    ensures { λ r. ⌜ r ≡ moved c pcid cpl place ⌝ }
-{
-    Context {
-        capability: c.capability,
-        width: c.width,
-        pcid,
-        cpl,
-        place,
-    }
-}
-
-// The context after an accepted event.
-pub fn context_after(c: Context, e: Event) -> Context
-    ensures { λ r. ⌜ r ≡ next-context c e ⌝ }
-{
-    match e {
-        Event::Entry(n) => moved_to(c, n.pcid, n.cpl, place_entered(n)),
-        Event::Exit(pcid) => moved_to(c, pcid, 0, Place::Root),
-        Event::Vmxon => moved_to(c, c.pcid, c.cpl, Place::Root),
-        Event::Vmxoff => moved_to(c, c.pcid, c.cpl, Place::Outside),
-        Event::NewPcid(n) => {
-            let place = c.place;
-            moved_to(c, n.pcid, n.cpl, place)
-        }
-        Event::Reset => reset(c),
-        Event::Creation(_) => c,
-        Event::Invvpid(_) => c,
-        Event::Invept(_) => c,
-        Event::Invlpg(_) => c,
-        Event::EptViolation(_) => c,
     }
 }

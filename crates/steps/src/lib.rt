@@ -80,7 +80,7 @@ fn perform(c: Context, e: Event, table: &[u8], count: usize, raw: &[u8], new: &m
     let length = add_creation(raw, new, kept.length);
     Step {
         answer: 0,
-        context: scopes::context_after(c, e),
+        context: transitions::context_after(c, e),
         length,
         dropped: kept.dropped,
     }

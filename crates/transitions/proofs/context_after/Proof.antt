@@ -1,0 +1,136 @@
+-- Each arm is the definition's row for its event.
+use borrow.Author.Needs.{needs}
+use Rattle.transitions.proofs.context_after.Statement.{statement}
+use Rattle.transitions.proofs.context_after.Tie as tie
+
+enum-known-e : tie.Need-enum-known-e
+enum-known-e c = search needs
+
+place-entered-requires : tie.Need-place-entered-requires
+place-entered-requires c κs = search needs
+
+moved-to-requires : tie.Need-moved-to-requires
+moved-to-requires c κs = search needs
+
+enum-known-e-2 : tie.Need-enum-known-e-2
+enum-known-e-2 c = search needs
+
+moved-to-requires-2 : tie.Need-moved-to-requires-2
+moved-to-requires-2 c κs = search needs
+
+enum-told : tie.Need-enum-told
+enum-told c = search needs
+
+moved-to-requires-3 : tie.Need-moved-to-requires-3
+moved-to-requires-3 c κs = search needs
+
+enum-told-2 : tie.Need-enum-told-2
+enum-told-2 c = search needs
+
+moved-to-requires-4 : tie.Need-moved-to-requires-4
+moved-to-requires-4 c κs = search needs
+
+enum-known-e-3 : tie.Need-enum-known-e-3
+enum-known-e-3 c = search needs
+
+moved-to-requires-5 : tie.Need-moved-to-requires-5
+moved-to-requires-5 c κs = search needs
+
+enum-told-3 : tie.Need-enum-told-3
+enum-told-3 c = search needs
+
+reset-requires : tie.Need-reset-requires
+reset-requires c κs = search needs
+
+enum-told-4 : tie.Need-enum-told-4
+enum-told-4 c = search needs
+
+enum-told-5 : tie.Need-enum-told-5
+enum-told-5 c = search needs
+
+enum-told-6 : tie.Need-enum-told-6
+enum-told-6 c = search needs
+
+enum-told-7 : tie.Need-enum-told-7
+enum-told-7 c = search needs
+
+enum-told-8 : tie.Need-enum-told-8
+enum-told-8 c = search needs
+
+returns : tie.Need-returns
+unfolding Rattle.model.specs.Scopes.next-context
+returns c = rw (c .before .before .before .e .given .1, ← c .before .place-entered .ensures) (c .moved-to .ensures)
+
+returns-2 : tie.Need-returns-2
+unfolding Rattle.model.specs.Scopes.next-context
+returns-2 c = rw (c .before .before .e2 .given .1) (c .moved-to2 .ensures)
+
+returns-3 : tie.Need-returns-3
+unfolding Rattle.model.specs.Scopes.next-context
+returns-3 c = rw (c .before .enum-told .given .1) (c .moved-to3 .ensures)
+
+returns-4 : tie.Need-returns-4
+unfolding Rattle.model.specs.Scopes.next-context
+returns-4 c = rw (c .before .enum-told2 .given .1) (c .moved-to4 .ensures)
+
+returns-5 : tie.Need-returns-5
+unfolding Rattle.model.specs.Scopes.next-context
+returns-5 c = rw (c .before .before .e3 .given .1) (c .moved-to5 .ensures)
+
+returns-6 : tie.Need-returns-6
+unfolding Rattle.model.specs.Scopes.next-context
+returns-6 c = rw (c .before .enum-told3 .given .1) (c .reset .ensures)
+
+returns-7 : tie.Need-returns-7
+unfolding Rattle.model.specs.Scopes.next-context
+returns-7 c = rw (c .enum-told4 .given .1)
+
+returns-8 : tie.Need-returns-8
+unfolding Rattle.model.specs.Scopes.next-context
+returns-8 c = rw (c .enum-told5 .given .1)
+
+returns-9 : tie.Need-returns-9
+unfolding Rattle.model.specs.Scopes.next-context
+returns-9 c = rw (c .enum-told6 .given .1)
+
+returns-10 : tie.Need-returns-10
+unfolding Rattle.model.specs.Scopes.next-context
+returns-10 c = rw (c .enum-told7 .given .1)
+
+returns-11 : tie.Need-returns-11
+unfolding Rattle.model.specs.Scopes.next-context
+returns-11 c = rw (c .enum-told8 .given .1)
+
+pub context-after-spec : {M : Type 1} → statement M
+context-after-spec =
+    tie.close
+    (tie.spec
+    enum-known-e
+    place-entered-requires
+    moved-to-requires
+    enum-known-e-2
+    moved-to-requires-2
+    enum-told
+    moved-to-requires-3
+    enum-told-2
+    moved-to-requires-4
+    enum-known-e-3
+    moved-to-requires-5
+    enum-told-3
+    reset-requires
+    enum-told-4
+    enum-told-5
+    enum-told-6
+    enum-told-7
+    enum-told-8
+    returns
+    returns-2
+    returns-3
+    returns-4
+    returns-5
+    returns-6
+    returns-7
+    returns-8
+    returns-9
+    returns-10
+    returns-11)
