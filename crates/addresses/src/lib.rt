@@ -1,6 +1,5 @@
 // Addresses, their pages, and the cover test.
 ghost use mathlib.Core.Path.{_≡_};
-ghost use Prim.Native.Nat.{_<_, _^_};
 ghost use Rattle.model.specs.Mappings.{covers};
 ghost use Rattle.model.specs.Events.{canonical, page-of};
 

@@ -1,8 +1,8 @@
 -- What the event reader answers of bytes: by their kind, their length and the ranges of their fields,
 -- and of a creation by what the record reader answers.
-use Prim.Native.Nat.{ℕ, _≤_, _<_}
+use Prim.Native.Nat.{ℕ}
 use mathlib.Core.Bool.{Bool, true, false, cond, _&&_, and-false}
-use mathlib.Core.List.{List, [], _∷_, _++_}
+use mathlib.Core.List.{List, []}
 use mathlib.Core.Path.{_≡_, refl, sym}
 use native.Mathlib.Omega.{arith}
 use borrow.Author.Tests.{eqb-true, eqb-false, leb-false, eq-eqb, ne-eqb}
@@ -16,10 +16,9 @@ use Rattle.model.specs.declared.Mapping.{Mapping}
 use Rattle.model.specs.declared.Reading.{Reading}
 use Rattle.model.specs.declared.Reading.the-variants.{Record, Nothing}
 use Rattle.model.specs.Events.{event, event-in-range, valid-event, event-reading}
-use Rattle.model.specs.Layouts.{Body, kind-of, mapping-kinds, other-event-kinds, known-in, mapping-kind, event-kind, length-of}
+use Rattle.model.specs.Layouts.{kind-of, mapping-kinds, other-event-kinds, mapping-kind, event-kind, length-of}
 use Rattle.model.specs.Mappings.{mapping, fields-in-range, starts-record, reading}
-use Rattle.mappings.specs.Fields.{by-kind, unknown-not}
-use Rattle.laws.specs.Layouts.{length-of-positive}
+use Rattle.laws.specs.Layouts.{None, known-in-none, mapping-kind-cases, length-of-positive}
 use Rattle.laws.specs.Events.{event-creation}
 
 -- a byte too few or too many
@@ -27,26 +26,11 @@ pub invalid-length : (e : List ℕ) (k : ℕ) → kind-of e ≡ k → (length e 
 unfolding event-reading valid-event
 invalid-length e k is off = rw (is, ne-eqb (length e) (length-of k) off, and-false)
 
--- the kind is none of a table's, as a `match` over its kinds says it, behind what was known before
-abbrev pub None : Type 0 → List (ℕ × Body) → ℕ → Type 0
-None before [] k = before
-None before (row ∷ rows) k = None (before × (k ≡ row .0 → ⊥)) rows k
-
-known-before : (before : Type 0) (rows : List (ℕ × Body)) (k : ℕ) → None before rows k → before
-known-before before [] k none = none
-known-before before (row ∷ rows) k none = known-before (before × (k ≡ row .0 → ⊥)) rows k none .0
-
-unknown : (before : Type 0) (rows more : List (ℕ × Body)) (k : ℕ) → None before rows k → known-in more k ≡ false → known-in (rows ++ more) k ≡ false
-unknown before [] more k none rest = rest
-unknown before (row ∷ rows) more k none rest =
-    let now = before × (k ≡ row .0 → ⊥) in
-    rw (ne-eqb k (row .0) (known-before now rows k none .1)) (unknown now rows more k none rest)
-
 -- an unknown kind
 pub invalid-kind : (e : List ℕ) → None (Unit {0}) mapping-kinds (kind-of e) → None (Unit {0}) other-event-kinds (kind-of e) → Invalid ≡ event-reading e
 unfolding event-reading valid-event event-kind
 invalid-kind e none others =
-    rw (unknown _ mapping-kinds other-event-kinds (kind-of e) none (unknown _ other-event-kinds [] (kind-of e) others refl))
+    rw (known-in-none _ mapping-kinds other-event-kinds (kind-of e) none (known-in-none _ other-event-kinds [] (kind-of e) others refl))
 
 -- no byte
 pub invalid-empty : (e : List ℕ) → length e ≡ 0 → Invalid ≡ event-reading e
@@ -65,18 +49,7 @@ read-valid e k v is known exact same within =
 
 event-kind-of-mapping : (k : ℕ) → mapping-kind k ≡ true → event-kind k ≡ true
 unfolding event-kind
-event-kind-of-mapping = by-kind (λ k. event-kind k ≡ true) refl refl refl refl refl refl
-
--- the kinds of mappings are those from 1 to 6
-pub mapping-kind-within : (k : ℕ) → 1 ≤ k → k < 7 → mapping-kind k ≡ true
-unfolding mapping-kind
-mapping-kind-within k low high = go (mapping-kind k) refl
-  where
-    go : (b : Bool) → mapping-kind k ≡ b → b ≡ true
-    go true is = refl
-    go false is =
-        let off : (n : ℕ) → mapping-kind n ≡ true → k ≡ n → ⊥ = λ n. unknown-not k n is in
-        absurd (omega (arith, off 1 refl, off 2 refl, off 3 refl, off 4 refl, off 5 refl, off 6 refl))
+event-kind-of-mapping = mapping-kind-cases (λ k. event-kind k ≡ true) refl refl refl refl refl refl
 
 -- what a creation of n bytes is, by what the record reader answers of them
 abbrev pub creation-reading : ℕ → Reading → EventReading

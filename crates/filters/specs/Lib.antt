@@ -1,4 +1,3 @@
 pub mod Kept
-pub mod Walk
 pub mod Sweep
 pub mod Whole

@@ -1,56 +1,51 @@
 -- The loop of `keep`: what holds at each position of its walk, how a kept and a dropped record carry
 -- it on, and what it says at the end.
-use Prim.Native.Nat.{ℕ, zero, suc, _+_, _-_, _<_, _≤_}
-use mathlib.Core.Bool.{Bool, true, false, cond, not}
-use mathlib.Core.List.{List, [], _∷_, _++_, append-assoc, append-nil}
+use Prim.Native.Nat.{ℕ, suc, _+_, _-_, _≤_}
+use mathlib.Core.Bool.{true, false, not}
+use mathlib.Core.List.{List, [], _++_, append-assoc, append-nil}
 use mathlib.Core.Path.{_≡_, refl, sym, ap, ap₂, _∙_}
 use native.Mathlib.Omega.{arith}
-use lib.ListN.{length, take, drop, length-append, length-drop, length-take, drop-of-length-le}
-use lib.Seq.{length-take-le, drop-drop, take-add, take-at, drop-at, drop-append-add, drop-length}
+use lib.ListN.{length, take, drop, length-append, length-drop, drop-of-length-le}
+use lib.Seq.{length-take-le, drop-drop, take-add, take-at, drop-at}
 use Rattle.model.specs.declared.Context.{Context}
 use Rattle.model.specs.declared.Event.{Event}
-use Rattle.model.specs.Mappings.{mapping, record-length}
+use Rattle.model.specs.Mappings.{mapping}
 use Rattle.model.specs.Tables.{joined, records, whole, only, count}
 use Rattle.model.specs.Scopes.{scope}
 use Rattle.model.specs.Steps.{overwritten}
-use Rattle.laws.specs.Mappings.{mapping-record}
-use Rattle.laws.specs.Tables.{records-cons, records-nil, only-true, only-false}
+use Rattle.laws.specs.Tables.{records-nil, only-true, only-false, Next, whole-rest}
 use Rattle.filters.specs.Kept.{kept, copied, Keeps}
-use Rattle.filters.specs.Walk.{Next}
 
 module _ (c : Context) (e : Event) where
   -- how many records of a table are in scope
   unfoldable pub gone : List ℕ → ℕ
   gone t = count (λ r. scope c e (mapping r)) (records t)
 
-  -- a first record that is kept, or dropped
-  pub kept-keep : (t : List ℕ) (n : ℕ) → record-length t ≡ suc n → scope c e (mapping t) ≡ false
-      → kept c e t ≡ take (suc n) t ++ kept c e (drop (suc n) t)
-  unfolding kept joined
-  kept-keep t n starts out =
-      let test : not (scope c e (mapping (take (suc n) t))) ≡ true = rw (mapping-record t n starts, out) in
-      rw (records-cons t n starts, only-true (λ r. not (scope c e (mapping r))) (take (suc n) t) (records (drop (suc n) t)) test)
+  -- the record at a position is kept, or dropped
+  module _ {t : List ℕ} {at n : ℕ} (next : Next t at n) where
+    pub kept-keep : scope c e (mapping (drop at t)) ≡ false → kept c e (drop at t) ≡ take n (drop at t) ++ kept c e (drop (at + n) t)
+    unfolding kept joined
+    kept-keep out =
+        let test : not (scope c e (mapping (take n (drop at t)))) ≡ true = rw (next .same, out) in
+        rw (next .split, only-true (λ r. not (scope c e (mapping r))) (take n (drop at t)) (records (drop (at + n) t)) test)
 
-  pub kept-drop : (t : List ℕ) (n : ℕ) → record-length t ≡ suc n → scope c e (mapping t) ≡ true
-      → kept c e t ≡ kept c e (drop (suc n) t)
-  unfolding kept
-  kept-drop t n starts inside =
-      let test : not (scope c e (mapping (take (suc n) t))) ≡ false = rw (mapping-record t n starts, inside) in
-      rw (records-cons t n starts, only-false (λ r. not (scope c e (mapping r))) (take (suc n) t) (records (drop (suc n) t)) test)
+    pub kept-drop : scope c e (mapping (drop at t)) ≡ true → kept c e (drop at t) ≡ kept c e (drop (at + n) t)
+    unfolding kept
+    kept-drop inside =
+        let test : not (scope c e (mapping (take n (drop at t)))) ≡ false = rw (next .same, inside) in
+        rw (next .split, only-false (λ r. not (scope c e (mapping r))) (take n (drop at t)) (records (drop (at + n) t)) test)
 
-  pub gone-keep : (t : List ℕ) (n : ℕ) → record-length t ≡ suc n → scope c e (mapping t) ≡ false
-      → gone t ≡ gone (drop (suc n) t)
-  unfolding gone count
-  gone-keep t n starts out =
-      let test : scope c e (mapping (take (suc n) t)) ≡ false = rw (mapping-record t n starts, out) in
-      rw (records-cons t n starts, only-false (λ r. scope c e (mapping r)) (take (suc n) t) (records (drop (suc n) t)) test)
+    pub gone-keep : scope c e (mapping (drop at t)) ≡ false → gone (drop at t) ≡ gone (drop (at + n) t)
+    unfolding gone count
+    gone-keep out =
+        let test : scope c e (mapping (take n (drop at t))) ≡ false = rw (next .same, out) in
+        rw (next .split, only-false (λ r. scope c e (mapping r)) (take n (drop at t)) (records (drop (at + n) t)) test)
 
-  pub gone-drop : (t : List ℕ) (n : ℕ) → record-length t ≡ suc n → scope c e (mapping t) ≡ true
-      → gone t ≡ suc (gone (drop (suc n) t))
-  unfolding gone count
-  gone-drop t n starts inside =
-      let test : scope c e (mapping (take (suc n) t)) ≡ true = rw (mapping-record t n starts, inside) in
-      rw (records-cons t n starts, only-true (λ r. scope c e (mapping r)) (take (suc n) t) (records (drop (suc n) t)) test)
+    pub gone-drop : scope c e (mapping (drop at t)) ≡ true → gone (drop at t) ≡ suc (gone (drop (at + n) t))
+    unfolding gone count
+    gone-drop inside =
+        let test : scope c e (mapping (take n (drop at t))) ≡ true = rw (next .same, inside) in
+        rw (next .split, only-true (λ r. scope c e (mapping r)) (take n (drop at t)) (records (drop (at + n) t)) test)
 
   -- nothing is kept of no records, and nothing dropped
   kept-nil : kept c e [] ≡ []
@@ -92,31 +87,26 @@ module _ (c : Context) (e : Event) where
 
   module _ (t buffer : List ℕ) (at from to dropped : ℕ) (new : List ℕ) (s : Sweep t buffer at from to dropped new) where
     -- one more record behind the run
-    run-more : (n : ℕ) → suc n ≤ length (drop at t)
-        → take (at + suc n - from) (drop from t) ≡ take (at - from) (drop from t) ++ take (suc n) (drop at t)
-    run-more n within =
-        let here : at + suc n - from ≡ (at - from) + suc n = omega (arith, s .run) in
+    run-more : (n : ℕ) → take (at + n - from) (drop from t) ≡ take (at - from) (drop from t) ++ take n (drop at t)
+    run-more n =
+        let here : at + n - from ≡ (at - from) + n = omega (arith, s .run) in
         let there : from + (at - from) ≡ at = omega (arith, s .run) in
-        rw (here, take-add (at - from) (suc n) (drop from t), drop-drop (at - from) from t, there)
+        rw (here, take-add (at - from) n (drop from t), drop-drop (at - from) from t, there)
 
     -- the record at the position is kept: the run goes on
-    pub sweep-keep : (next : Next (drop at t)) → scope c e (mapping (drop at t)) ≡ false
-        → Sweep t buffer (at + suc (next .less)) from to dropped new
-    sweep-keep next out =
-        let n = next .less in
-        let left = length-drop at t in
+    pub sweep-keep : {n : ℕ} → Next t at n → scope c e (mapping (drop at t)) ≡ false → Sweep t buffer (at + n) from to dropped new
+    sweep-keep {n} next out =
         record {
           run = omega (arith, s .run);
-          inside = omega (arith, next .within, left, s .inside);
+          inside = next .within;
           behind = s .behind;
           few = omega (arith, s .few);
           room = s .room;
-          rest = rw drop-drop at (next .rest);
+          rest = whole-rest (s .rest) next;
           size = s .size;
           tail = s .tail;
-          bytes =
-              rw (run-more n (next .within), append-assoc, ← (drop-drop (suc n) at t), ← (kept-keep (drop at t) n (next .starts) out)) (s .bytes);
-          number = rw (← (drop-drop (suc n) at t), ← (gone-keep (drop at t) n (next .starts) out)) (s .number);
+          bytes = rw (run-more n, append-assoc, ← (kept-keep next out)) (s .bytes);
+          number = rw (← (gone-keep next out)) (s .number);
         }
 
     -- the bytes of the run
@@ -151,26 +141,22 @@ module _ (c : Context) (e : Event) where
         (omega (arith, s .behind, s .run, s .inside, s .room))
 
     -- the record at the position is dropped: the run is copied, and the next one starts behind it
-    pub sweep-drop : (next : Next (drop at t)) → scope c e (mapping (drop at t)) ≡ true
-        → Sweep t buffer (at + suc (next .less)) (at + suc (next .less)) (to + (at - from)) (dropped + 1) (copied t at from to new)
+    pub sweep-drop : {n : ℕ} → Next t at n → scope c e (mapping (drop at t)) ≡ true
+        → Sweep t buffer (at + n) (at + n) (to + (at - from)) (dropped + 1) (copied t at from to new)
     unfolding front
-    sweep-drop next inside =
-        let n = next .less in
-        let left = length-drop at t in
-        let none : at + suc n - (at + suc n) ≡ 0 = omega arith in
+    sweep-drop {n} next inside =
+        let none : at + n - (at + n) ≡ 0 = omega arith in
         record {
           run = omega arith;
-          inside = omega (arith, next .within, left, s .inside);
+          inside = next .within;
           behind = omega (arith, s .behind, s .run);
-          few = omega (arith, s .few);
+          few = omega (arith, s .few, next .some);
           room = s .room;
-          rest = rw drop-drop at (next .rest);
+          rest = whole-rest (s .rest) next;
           size = length-copied;
           tail = drop-copied;
-          bytes =
-              rw (none, take-copied, append-assoc, ← (drop-drop (suc n) at t), ← (kept-drop (drop at t) n (next .starts) inside)) (s .bytes);
-          number =
-              rw (← (drop-drop (suc n) at t)) (omega (arith, s .number, gone-drop (drop at t) n (next .starts) inside));
+          bytes = rw (none, take-copied, append-assoc, ← (kept-drop next inside)) (s .bytes);
+          number = omega (arith, s .number, gone-drop next inside);
         }
 
     -- the walk is at the end: the last run is copied, and all is told

@@ -1,33 +1,21 @@
 -- The two ends of `keep`: an event with no record in scope keeps the table, a reset drops it.
-use Prim.Native.Nat.{ℕ, _≤_}
-use mathlib.Core.Bool.{Bool, true, false, not}
-use mathlib.Core.List.{List, [], _∷_, _++_}
+use Prim.Native.Nat.{ℕ}
+use mathlib.Core.Bool.{true, false, not}
+use mathlib.Core.List.{List, []}
 use mathlib.Core.Path.{_≡_, refl, sym, ap, _∙_}
 use native.Mathlib.Nat.{sub-zero}
-use native.Mathlib.Omega.{arith}
-use lib.ListN.{length, take, drop}
+use lib.ListN.{length}
 use lib.Seq.{take-length}
 use Rattle.model.specs.declared.Context.{Context}
 use Rattle.model.specs.declared.Event.{Event}
 use Rattle.model.specs.declared.Event.the-variants.{Reset}
 use Rattle.model.specs.declared.Mapping.{Mapping}
 use Rattle.model.specs.Mappings.{mapping}
-use Rattle.model.specs.Tables.{records, joined, whole, only, count}
+use Rattle.model.specs.Tables.{records, joined, whole, count}
 use Rattle.model.specs.Scopes.{scope}
 use Rattle.model.specs.Steps.{overwritten}
-use Rattle.laws.specs.Tables.{only-true, only-false, whole-joined}
+use Rattle.laws.specs.Tables.{only-all, only-none, whole-joined}
 use Rattle.filters.specs.Kept.{kept, copied, Keeps}
-
--- a test that holds of every record, or of none
-only-all : (p : List ℕ → Bool) (rs : List (List ℕ)) → ((r : List ℕ) → p r ≡ true) → only p rs ≡ rs
-unfolding only
-only-all p [] h = refl
-only-all p (r ∷ rs) h = only-true p r rs (h r) ∙ ap (λ others. r ∷ others) (only-all p rs h)
-
-only-none : (p : List ℕ → Bool) (rs : List (List ℕ)) → ((r : List ℕ) → p r ≡ false) → only p rs ≡ []
-unfolding only
-only-none p [] h = refl
-only-none p (r ∷ rs) h = only-false p r rs (h r) ∙ only-none p rs h
 
 pub keeps-all : (c : Context) (e : Event) (t buffer : List ℕ) → whole t ≡ true → ((m : Mapping) → scope c e m ≡ false)
     → (told : ℕ) → told ≡ length t → (after : List ℕ) → after ≡ copied t (length t) 0 0 buffer → Keeps c e t buffer told 0 after

@@ -35,5 +35,5 @@ unfolding event-in-range
 creation-valid e v k =
     let p = valid-event-parts e v in
     valid-made e
-    (starts-made e (record { kind = k; fits = omega (arith, p .exact); fields = rw (event-creation e k) at (p .fields) }))
+    (starts-made e (record { held = record { known = k; fits = omega (arith, p .exact) }; fields = rw (event-creation e k) at (p .fields) }))
     (p .exact)

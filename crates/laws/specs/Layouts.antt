@@ -1,14 +1,69 @@
--- Fields: each lies within its record or event, so the bytes behind that do not matter.
+-- The kinds of mappings, and fields: each lies within its record or event, so the bytes behind that
+-- do not matter.
 use Prim.Native.Nat.{ℕ, zero, suc, _+_, _*_, _≤_, _<_}
-use mathlib.Core.Path.{_≡_, refl, ap₂}
-use mathlib.Core.Bool.{Bool, true, false, cond}
+use mathlib.Core.Path.{_≡_, refl, sym, ap, ap₂, subst, _∙_}
+use mathlib.Core.Bool.{Bool, true, false, cond, _&&_, false≢true}
 use mathlib.Core.List.{List, [], _∷_, _++_}
 use native.Mathlib.Omega.{arith}
-use lib.Dec.{eqb}
-use lib.ListN.{length, take}
+use borrow.Author.Tests.{eqb-true, ne-eqb, leb-true}
+use lib.Dec.{eqb, leb, lit≤}
 use Rattle.model.specs.Bits.{number}
-use Rattle.model.specs.Layouts.{Field, Body, field-number, bytes-of, offset-in, width-in, kind-of, body-of, length-of, field}
-use Rattle.laws.specs.Lists.{Agree, agree-append, agree-take}
+use Rattle.model.specs.Layouts.{Field, Body, field-number, bytes-of, offset-in, width-in, known-in, kind-of, mapping-kind, body-of, length-of, field}
+use Rattle.laws.specs.Lists.{Agree}
+
+-- one row of the table of kinds: the kind is the row's, or it is known by the rows after it
+row : (P : ℕ → Type 0) (n k : ℕ) (rest : Bool) → P n → (rest ≡ true → P k) → cond (eqb k n) true rest ≡ true → P k
+row P n k rest p q = go (eqb k n) refl
+  where
+    go : (b : Bool) → eqb k n ≡ b → cond b true rest ≡ true → P k
+    go true e h = subst P (sym (eqb-true k n e)) p
+    go false e h = q h
+
+-- what holds of each of the six kinds of mappings holds of a known kind
+pub mapping-kind-cases : (P : ℕ → Type 0) → P 1 → P 2 → P 3 → P 4 → P 5 → P 6 → (k : ℕ) → mapping-kind k ≡ true → P k
+unfolding mapping-kind
+mapping-kind-cases P p1 p2 p3 p4 p5 p6 k =
+    row P 1 k _ p1
+    (row P 2 k _ p2
+    (row P 3 k _ p3 (row P 4 k _ p4 (row P 5 k _ p5 (row P 6 k _ p6 (λ e. absurd (false≢true e)))))))
+
+-- they are those from 1 to 6
+pub mapping-kind-range : (k : ℕ) → mapping-kind k ≡ (leb 1 k && leb k 6)
+unfolding mapping-kind
+mapping-kind-range k = go (mapping-kind k) refl
+  where
+    other : mapping-kind k ≡ false → (n : ℕ) → mapping-kind n ≡ true → k ≡ n → ⊥
+    other unknown n known e = false≢true (sym unknown ∙ ap mapping-kind e ∙ known)
+
+    outside : mapping-kind k ≡ false → (a b : Bool) → leb 1 k ≡ a → leb k 6 ≡ b → false ≡ (a && b)
+    outside h true true p q =
+        absurd
+        (omega (arith, leb-true 1 k p, leb-true k 6 q, other h 1 refl, other h 2 refl, other h 3 refl, other h 4 refl, other h 5 refl, other h 6 refl))
+    outside h true false p q = refl
+    outside h false b p q = refl
+
+    go : (b : Bool) → mapping-kind k ≡ b → b ≡ (leb 1 k && leb k 6)
+    go true h = mapping-kind-cases (λ k. true ≡ (leb 1 k && leb k 6)) refl refl refl refl refl refl k h
+    go false h = outside h (leb 1 k) (leb k 6) refl refl
+
+pub mapping-kind-le : (k : ℕ) → mapping-kind k ≡ true → k ≤ 6
+mapping-kind-le = mapping-kind-cases (λ k. k ≤ 6) (lit≤ tt) (lit≤ tt) (lit≤ tt) (lit≤ tt) (lit≤ tt) (lit≤ tt)
+
+-- the kind is none of a table's, as a `match` over the table's kinds says it, behind what was known
+-- before
+abbrev pub None : Type 0 → List (ℕ × Body) → ℕ → Type 0
+None before [] k = before
+None before (row ∷ rows) k = None (before × (k ≡ row .0 → ⊥)) rows k
+
+none-before : (before : Type 0) (rows : List (ℕ × Body)) (k : ℕ) → None before rows k → before
+none-before before [] k none = none
+none-before before (row ∷ rows) k none = none-before (before × (k ≡ row .0 → ⊥)) rows k none .0
+
+pub known-in-none : (before : Type 0) (rows more : List (ℕ × Body)) (k : ℕ) → None before rows k → known-in more k ≡ false → known-in (rows ++ more) k ≡ false
+known-in-none before [] more k none rest = rest
+known-in-none before (row ∷ rows) more k none rest =
+    let now = before × (k ≡ row .0 → ⊥) in
+    rw (ne-eqb k (row .0) (none-before now rows k none .1)) (known-in-none now rows more k none rest)
 
 -- a record or event has a kind byte
 pub length-of-positive : (kind : ℕ) → 0 < length-of kind
@@ -44,16 +99,3 @@ field-agree f r t h =
     (width-in (body-of (kind-of t)) f)
     (1 + offset-in (body-of (kind-of t)) f)
     (omega (arith, field-within (body-of (kind-of t)) f)))
-
--- bytes after a record or event do not matter
-pub kind-append : (r s : List ℕ) → length-of (kind-of r) ≤ length r → kind-of (r ++ s) ≡ kind-of r
-kind-append r s h = kind-agree (r ++ s) r (agree-append (length-of (kind-of r)) r s h)
-
-pub field-append : (f : Field) (r s : List ℕ) → length-of (kind-of r) ≤ length r → field f (r ++ s) ≡ field f r
-field-append f r s h = field-agree f (r ++ s) r (agree-append (length-of (kind-of r)) r s h)
-
-pub kind-take : (n : ℕ) (t : List ℕ) → length-of (kind-of t) ≤ n → kind-of (take n t) ≡ kind-of t
-kind-take n t h = kind-agree (take n t) t (agree-take (length-of (kind-of t)) n t h)
-
-pub field-take : (f : Field) (n : ℕ) (t : List ℕ) → length-of (kind-of t) ≤ n → field f (take n t) ≡ field f t
-field-take f n t h = field-agree f (take n t) t (agree-take (length-of (kind-of t)) n t h)

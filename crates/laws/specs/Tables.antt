@@ -1,27 +1,25 @@
--- Tables: records end to end, the records at the front of some bytes, and the records of which a
--- test holds.
-use Prim.Native.Nat.{ℕ, zero, suc, _+_, _-_, _≤_}
+-- Tables: records end to end, the records at the front of some bytes, the records of which a test
+-- holds, and the record at a position.
+use Prim.Native.Nat.{ℕ, zero, suc, _+_, _-_, _≤_, _<_}
 use mathlib.Core.Path.{_≡_, refl, sym, ap, ap₂, _∙_}
-use mathlib.Core.Bool.{Bool, true, false, cond, not, _&&_}
+use mathlib.Core.Bool.{Bool, true, false, cond, not}
 use mathlib.Core.List.{List, [], _∷_, _++_, append-assoc, append-nil}
 use native.Mathlib.Omega.{arith}
 use native.Mathlib.Nat.{le-refl}
 use lib.ListN.{length, take, drop, length-append, length-take, length-drop, drop-of-length-le}
 use lib.Seq.{take-length, take-all, length-take-le, take-at, drop-at, drop-drop, take-add}
 use borrow.Author.Tests.{eqb-true, eq-eqb}
-use Rattle.model.specs.Mappings.{record-length}
+use Rattle.model.specs.Layouts.{kind-of, length-of}
+use Rattle.model.specs.Mappings.{mapping, record-length}
 use Rattle.model.specs.Tables.{joined, cut, records-within, records, whole, only, count}
-use Rattle.laws.specs.Lists.{Every, none, more, cond-append}
-use Rattle.laws.specs.Mappings.{Valid, valid-take, valid-append, record-length-le}
+use Rattle.laws.specs.Lists.{Every, none, more}
+use Rattle.laws.specs.Mappings.{Held, Valid, mapping-take, held-record-length, record-length-kind, record-length-le, valid-take, valid-append}
 
 -- records end to end
 pub joined-append : (rs ss : List (List ℕ)) → joined (rs ++ ss) ≡ joined rs ++ joined ss
 unfolding joined
 joined-append [] ss = refl
 joined-append (r ∷ rs) ss = rw (joined-append rs ss, append-assoc)
-
-pub length-joined-append : (rs ss : List (List ℕ)) → length (joined (rs ++ ss)) ≡ length (joined rs) + length (joined ss)
-length-joined-append rs ss = rw (joined-append, length-append)
 
 pub length-joined-cons : (r : List ℕ) (rs : List (List ℕ)) → length (joined (r ∷ rs)) ≡ length r + length (joined rs)
 unfolding joined
@@ -40,25 +38,15 @@ pub only-false : (p : List ℕ → Bool) (r : List ℕ) (rs : List (List ℕ)) �
 unfolding only
 only-false p r rs e = rw e
 
-pub only-append : (p : List ℕ → Bool) (rs ss : List (List ℕ)) → only p (rs ++ ss) ≡ only p rs ++ only p ss
+pub only-all : (p : List ℕ → Bool) (rs : List (List ℕ)) → ((r : List ℕ) → p r ≡ true) → only p rs ≡ rs
 unfolding only
-only-append p [] ss = refl
-only-append p (r ∷ rs) ss = rw (only-append p rs ss) (cond-append (p r) r (only p rs) (only p ss))
+only-all p [] h = refl
+only-all p (r ∷ rs) h = only-true p r rs (h r) ∙ ap (λ others. r ∷ others) (only-all p rs h)
 
-pub only-only : (p q : List ℕ → Bool) (rs : List (List ℕ)) → only p (only q rs) ≡ only (λ r. q r && p r) rs
+pub only-none : (p : List ℕ → Bool) (rs : List (List ℕ)) → ((r : List ℕ) → p r ≡ false) → only p rs ≡ []
 unfolding only
-only-only p q [] = refl
-only-only p q (r ∷ rs) = go (q r) (only-only p q rs)
-  where
-    go : (b : Bool) → only p (only q rs) ≡ only (λ r. q r && p r) rs
-        → only p (cond b (r ∷ only q rs) (only q rs)) ≡ cond (b && p r) (r ∷ only (λ r. q r && p r) rs) (only (λ r. q r && p r) rs)
-    go true h = rw h
-    go false h = h
-
-pub only-agree : (p q : List ℕ → Bool) (rs : List (List ℕ)) → ((r : List ℕ) → p r ≡ q r) → only p rs ≡ only q rs
-unfolding only
-only-agree p q [] h = refl
-only-agree p q (r ∷ rs) h = rw (h r, only-agree p q rs h)
+only-none p [] h = refl
+only-none p (r ∷ rs) h = only-false p r rs (h r) ∙ only-none p rs h
 
 pub every-only : {P : List ℕ → Type 0} (p : List ℕ → Bool) {rs : List (List ℕ)} → Every P rs → Every P (only p rs)
 unfolding only
@@ -70,10 +58,6 @@ every-only {P} p (more {x} {xs} h hs) = go (p x) (every-only p hs)
     go false k = k
 
 -- how many they are
-pub count-append : (p : List ℕ → Bool) (rs ss : List (List ℕ)) → count p (rs ++ ss) ≡ count p rs + count p ss
-unfolding count
-count-append p rs ss = rw (only-append, length-append)
-
 pub count-complement : (p : List ℕ → Bool) (rs : List (List ℕ)) → count p rs + count (λ r. not (p r)) rs ≡ length rs
 unfolding count only
 count-complement p [] = refl
@@ -199,13 +183,60 @@ pub joined-whole : {rs : List (List ℕ)} → Every Valid rs → whole (joined r
 unfolding whole
 joined-whole {rs} v = rw (records-joined v) (eq-eqb (length (joined rs)) (length (joined rs)) refl)
 
--- the rest of a table from a position on, as Rattle hands over `&t[at..]`, and its records
+-- the rest of a table from a position on, as Rattle hands over `&t[at..]`
 pub rest-of-drop : (at : ℕ) (t : List ℕ) → take (length t - at) (drop at t) ≡ drop at t
 rest-of-drop at t = take-all (length t - at) (drop at t) (omega (arith, length-drop at t))
 
-pub records-drop-cons : (t : List ℕ) (at n : ℕ) → record-length (drop at t) ≡ suc n
-    → records (drop at t) ≡ take (suc n) (drop at t) ∷ records (drop (at + suc n) t)
-records-drop-cons t at n e = records-cons (drop at t) n e ∙ rw drop-drop
-
 pub records-drop-end : (t : List ℕ) (at : ℕ) → length t ≤ at → records (drop at t) ≡ []
 records-drop-end t at h = rw (drop-of-length-le t h) records-nil
+
+-- a valid record of n bytes stands at a position of a table, with the other records behind it
+pub record Next (t : List ℕ) (at n : ℕ) : Type 0 where
+  pub some : 0 < n
+  pub within : at + n ≤ length t
+  pub size : length (take n (drop at t)) ≡ n
+  pub same : mapping (take n (drop at t)) ≡ mapping (drop at t)
+  pub split : records (drop at t) ≡ take n (drop at t) ∷ records (drop (at + n) t)
+
+pub next-of-length : (t : List ℕ) (at n : ℕ) → record-length (drop at t) ≡ n → 0 < n → Next t at n
+next-of-length t at zero e some = absurd (omega arith)
+next-of-length t at (suc n) e some =
+    let front : suc n ≤ length (drop at t) = omega (arith, record-length-le (drop at t)) in
+    let starts : 0 < record-length (drop at t) = omega arith in
+    record {
+      some = some;
+      within = omega (arith, length-drop at t);
+      size = length-take-le (suc n) (drop at t) front;
+      same = mapping-take (suc n) (drop at t) (omega (arith, record-length-kind (drop at t) starts));
+      split = records-cons (drop at t) n e ∙ rw drop-drop;
+    }
+
+-- at each position before the end of a whole table a valid record stands, and the rest is whole
+pub whole-starts : (t : List ℕ) → whole t ≡ true → 0 < length t → 0 < record-length t
+unfolding whole joined
+whole-starts t w some = go (record-length t) refl
+  where
+    go : (n : ℕ) → record-length t ≡ n → 0 < record-length t
+    go zero e =
+        absurd (omega (arith, eqb-true (length (joined (records t))) (length t) w, ap length (ap joined (records-none t e))))
+    go (suc n) e = omega arith
+
+pub whole-rest : {t : List ℕ} {at n : ℕ} → whole (drop at t) ≡ true → Next t at n → whole (drop (at + n) t) ≡ true
+unfolding whole
+whole-rest {t} {at} {n} w next =
+    let full = eqb-true (length (joined (records (drop at t)))) (length (drop at t)) w in
+    let split = ap length (ap joined (next .split)) ∙ length-joined-cons (take n (drop at t)) (records (drop (at + n) t)) in
+    eq-eqb (length (joined (records (drop (at + n) t)))) (length (drop (at + n) t))
+    (omega (arith, full, split, next .size, length-drop at t, length-drop (at + n) t))
+
+module _ (t : List ℕ) (at : ℕ) (w : whole (drop at t) ≡ true) (before : at < length t) where
+  starts : 0 < record-length (drop at t)
+  starts = whole-starts (drop at t) w (omega (arith, length-drop at t))
+
+  pub held-of-whole : Held (take (length t - at) (drop at t))
+  held-of-whole = rw rest-of-drop (held-record-length (drop at t) starts)
+
+  pub next-of-whole : {n : ℕ} → n ≡ length-of (kind-of (take (length t - at) (drop at t))) → Next t at n
+  next-of-whole {n} read =
+      let long : record-length (drop at t) ≡ n = record-length-kind (drop at t) starts ∙ sym (rw rest-of-drop at read) in
+      next-of-length t at n long (omega (arith, starts))

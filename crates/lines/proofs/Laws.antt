@@ -1,12 +1,12 @@
 -- What the functions rest on: digits as `io::decimal` gives them, bytes put at a position, and the
 -- lengths of the texts.
 use Prim.Native.Nat.{ℕ, zero, suc, _+_, _-_, _*_, _/_, _%_, _^_, _≤_, _<_}
-use mathlib.Core.Bool.{Bool, true, false, cond, _&&_}
+use mathlib.Core.Bool.{Bool, true, false, cond}
 use mathlib.Core.List.{List, [], _∷_, _++_, append-assoc, append-nil}
 use mathlib.Core.Path.{_≡_, refl, sym, ap, _∙_}
 use native.Mathlib.Omega.{arith}
 use native.Mathlib.Nat.{mod-eq-of-lt, pow-le-pow-right}
-use native.Mathlib.Numerals.{add-one, sub-one}
+use native.Mathlib.Numerals.{sub-one}
 use borrow.Author.Tests.{lt-ltb, le-ltb, leb-true, leb-false, le-leb}
 use borrow.Rule.Slice.PartMut.{putMid}
 use lib.Dec.{ltb, leb}
@@ -108,10 +108,6 @@ placed-more xs b at end h =
     drop-drop (length (xs ++ (end ∷ []))) at b ∙ ap (λ (n : ℕ). drop n b) more in
     let here = set-at (take at b ++ xs) y ys end (at + length xs) front in
     rw (split, behind, ← append-assoc (take at b) xs (y ∷ ys), here) (simp append-assoc)
-
-pub placed-front : (xs b : List ℕ) → placed xs 0 b ≡ overwritten xs b
-unfolding overwritten
-placed-front xs b = refl
 
 pub placed-behind : (xs ys b : List ℕ) → placed ys (length xs) (overwritten xs b) ≡ overwritten (xs ++ ys) b
 unfolding overwritten

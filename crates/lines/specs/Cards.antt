@@ -1,5 +1,5 @@
 -- The lines that document 01 prints for its five events, and one with the largest number.
-use mathlib.Core.List.{List, [], _∷_, _++_}
+use mathlib.Core.List.{[], _∷_, _++_}
 use mathlib.Core.Path.{_≡_, refl}
 use Rattle.lines.specs.Text.{decimal-within, decimal, line-text}
 

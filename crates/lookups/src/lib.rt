@@ -9,7 +9,7 @@ ghost use Prim.Native.Nat.{_+_};
 ghost use Rattle.model.specs.Mappings.{mapping};
 ghost use Rattle.model.specs.Tables.{whole};
 ghost use Rattle.model.specs.Lookups.{translates-linear, usable, lookup-answer, lookup, lookup-start};
-ghost use Rattle.mappings.specs.Held.{Held};
+ghost use Rattle.laws.specs.Mappings.{Held};
 ghost use Rattle.lookups.specs.Search.{Searched};
 
 // The record translates linear addresses under the EPT state: kinds 1 and 4 with EPT off, kinds 3 and

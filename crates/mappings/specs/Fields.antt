@@ -1,73 +1,35 @@
--- Laws of mapping records, kind by kind: where a field stands, how long a held record is, and what
--- the length of a valid record says.
-use Prim.Native.Nat.{ℕ, _+_, _*_, _/_, _%_, _^_, _≤_, _<_, zero-le}
-use mathlib.Core.Bool.{Bool, true, false, cond, not, _&&_, _||_, and-true, and-false, and-eq-true-iff, or-false, false≢true}
+-- Laws of held records, kind by kind: where a field stands, how long the record is, and which tests
+-- say that the fields are in their ranges.
+use Prim.Native.Nat.{ℕ, _+_, _*_, _/_, _%_, _^_, _≤_}
+use mathlib.Core.Bool.{Bool, true, false, cond, not, _&&_, _||_, and-true, and-false, and-eq-true-iff, or-false}
 use mathlib.Core.List.{List}
 use mathlib.Core.Logic.{_⊎_, inl, inr, ⊎-elim}
-use mathlib.Core.Path.{_≡_, refl, sym, ap, subst, _∙_}
+use mathlib.Core.Path.{_≡_, refl, sym, ap, subst}
 use native.Mathlib.Nat.{le-trans}
 use native.Mathlib.Omega.{arith}
-use borrow.Author.Tests.{eqb-true, ne-eqb, leb-true, le-leb, lt-leb}
+use borrow.Author.Tests.{ne-eqb, leb-true}
 use lib.Dec.{eqb, leb, lit≤}
 use lib.ListN.{length}
 use Rattle.model.specs.Bits.{number}
 use Rattle.model.specs.Layouts.{Field, field, kind-of, mapping-kind, body-of, length-of, width-in, offset-in}
-use Rattle.model.specs.Mappings.{mapping, global-translation, span-in-range, page-in-range, fields-in-range, starts-record, record-length, reading}
-use Rattle.model.specs.declared.Reading.the-variants.{Record, Nothing}
+use Rattle.model.specs.Mappings.{mapping, global-translation, span-in-range, page-in-range, fields-in-range}
 use Rattle.model.specs.declared.Mapping.{Mapping}
-use Rattle.mappings.specs.Held.{Held, SpanAt}
+use Rattle.laws.specs.Layouts.{mapping-kind-cases}
+use Rattle.laws.specs.Mappings.{Held}
+use Rattle.mappings.specs.Spans.{SpanAt}
 
 -- ---- kinds
-
--- one row of the table of kinds: the kind is the row's, or it is known by the rows after it
-row : (P : ℕ → Type 0) (n k : ℕ) (rest : Bool) → P n → (rest ≡ true → P k) → cond (eqb k n) true rest ≡ true → P k
-row P n k rest p q = go (eqb k n) refl
-  where
-    go : (b : Bool) → eqb k n ≡ b → cond b true rest ≡ true → P k
-    go true e h = subst P (sym (eqb-true k n e)) p
-    go false e h = q h
-
--- what holds of each of the six kinds holds of a known kind
-pub by-kind : (P : ℕ → Type 0) → P 1 → P 2 → P 3 → P 4 → P 5 → P 6 → (k : ℕ) → mapping-kind k ≡ true → P k
-unfolding mapping-kind
-by-kind P p1 p2 p3 p4 p5 p6 k =
-    row P 1 k _ p1
-    (row P 2 k _ p2
-    (row P 3 k _ p3 (row P 4 k _ p4 (row P 5 k _ p5 (row P 6 k _ p6 (λ e. absurd (false≢true e)))))))
 
 -- what holds of the kinds other than a and b holds of a known kind that is neither
 abbrev pub But : (ℕ → Type 0) → ℕ → ℕ → ℕ → Type 0
 But P a b k = cond (eqb k a || eqb k b) (Unit {0}) (P k)
 
-pub by-kind-but : (P : ℕ → Type 0) (a b : ℕ) → But P a b 1 → But P a b 2 → But P a b 3 → But P a b 4 → But P a b 5 → But P a b 6 → (k : ℕ) → mapping-kind k ≡ true → ((k ≡ a) ⊎ (k ≡ b) → ⊥) → P k
-by-kind-but P a b p1 p2 p3 p4 p5 p6 k known none =
-    let at : But P a b k = by-kind (But P a b) p1 p2 p3 p4 p5 p6 k known in
+pub mapping-kind-cases-but : (P : ℕ → Type 0) (a b : ℕ) → But P a b 1 → But P a b 2 → But P a b 3 → But P a b 4 → But P a b 5 → But P a b 6 → (k : ℕ) → mapping-kind k ≡ true → ((k ≡ a) ⊎ (k ≡ b) → ⊥) → P k
+mapping-kind-cases-but P a b p1 p2 p3 p4 p5 p6 k known none =
+    let at : But P a b k = mapping-kind-cases (But P a b) p1 p2 p3 p4 p5 p6 k known in
     let off-a : eqb k a ≡ false = ne-eqb k a (λ e. none (inl e)) in
     let off-b : eqb k b ≡ false = ne-eqb k b (λ e. none (inr e)) in
     rw (off-a, off-b) at at
-
--- a known kind is none that is not known
-pub unknown-not : (k n : ℕ) → mapping-kind k ≡ false → mapping-kind n ≡ true → k ≡ n → ⊥
-unknown-not k n unknown known e = false≢true (sym unknown ∙ ap mapping-kind e ∙ known)
-
--- the known kinds are those from 1 to 6
-pub kind-range : (k : ℕ) → mapping-kind k ≡ (leb 1 k && leb k 6)
-unfolding mapping-kind
-kind-range k = go (mapping-kind k) refl
-  where
-    outside : mapping-kind k ≡ false → (a b : Bool) → leb 1 k ≡ a → leb k 6 ≡ b → false ≡ (a && b)
-    outside h true true p q =
-        absurd
-        (omega (arith, leb-true 1 k p, leb-true k 6 q, unknown-not k 1 h refl, unknown-not k 2 h refl, unknown-not k 3 h refl, unknown-not k 4 h refl, unknown-not k 5 h refl, unknown-not k 6 h refl))
-    outside h true false p q = refl
-    outside h false b p q = refl
-
-    go : (b : Bool) → mapping-kind k ≡ b → b ≡ (leb 1 k && leb k 6)
-    go true h = by-kind (λ k. true ≡ (leb 1 k && leb k 6)) refl refl refl refl refl refl k h
-    go false h = outside h (leb 1 k) (leb k 6) refl refl
-
-pub kind-below : (k : ℕ) → mapping-kind k ≡ true → k ≤ 6
-kind-below = by-kind (λ k. k ≤ 6) (lit≤ tt) (lit≤ tt) (lit≤ tt) (lit≤ tt) (lit≤ tt) (lit≤ tt)
 
 -- ---- fields
 
@@ -102,7 +64,7 @@ But-at P r a b k = But (λ k. P (mapping-at k r)) a b k
 pub mapping-by-kind : (P : ℕ → Mapping → Type 0) (r : List ℕ) → P 1 (mapping-at 1 r) → P 2 (mapping-at 2 r) → P 3 (mapping-at 3 r) → P 4 (mapping-at 4 r) → P 5 (mapping-at 5 r) → P 6 (mapping-at 6 r) → Held r → P (kind-of r) (mapping r)
 mapping-by-kind P r p1 p2 p3 p4 p5 p6 held =
     rw (mapping-of-kind r (kind-of r) refl)
-    (by-kind (λ k. P k (mapping-at k r)) p1 p2 p3 p4 p5 p6 (kind-of r) (held .known))
+    (mapping-kind-cases (λ k. P k (mapping-at k r)) p1 p2 p3 p4 p5 p6 (kind-of r) (held .known))
 
 pub mapping-of-two : (P : Mapping → Type 0) (r : List ℕ) {a b : ℕ} → (kind-of r ≡ a) ⊎ (kind-of r ≡ b) → P (mapping-at a r) → P (mapping-at b r) → P (mapping r)
 mapping-of-two P r {a} {b} one p q =
@@ -111,14 +73,14 @@ mapping-of-two P r {a} {b} one p q =
 pub mapping-but : (P : Mapping → Type 0) (r : List ℕ) {a b : ℕ} → Held r → ((kind-of r ≡ a) ⊎ (kind-of r ≡ b) → ⊥) → But-at P r a b 1 → But-at P r a b 2 → But-at P r a b 3 → But-at P r a b 4 → But-at P r a b 5 → But-at P r a b 6 → P (mapping r)
 mapping-but P r {a} {b} held none p1 p2 p3 p4 p5 p6 =
     rw (mapping-of-kind r (kind-of r) refl)
-    (by-kind-but (λ k. P (mapping-at k r)) a b p1 p2 p3 p4 p5 p6 (kind-of r) (held .known) none)
+    (mapping-kind-cases-but (λ k. P (mapping-at k r)) a b p1 p2 p3 p4 p5 p6 (kind-of r) (held .known) none)
 
 -- ---- the length of a held record
 
 -- every kind has 16 bytes or more
 pub least-length : (k : ℕ) → mapping-kind k ≡ true → 16 ≤ length-of k
 unfolding length-of body-of
-least-length = by-kind (λ k. 16 ≤ length-of k) (lit≤ tt) (lit≤ tt) (lit≤ tt) (lit≤ tt) (lit≤ tt) (lit≤ tt)
+least-length = mapping-kind-cases (λ k. 16 ≤ length-of k) (lit≤ tt) (lit≤ tt) (lit≤ tt) (lit≤ tt) (lit≤ tt) (lit≤ tt)
 
 pub held-length : (r : List ℕ) → Held r → 16 ≤ length r
 held-length r held = le-trans (least-length (kind-of r) (held .known)) (held .fits)
@@ -131,7 +93,7 @@ held-length-of-kind r k e held = subst (λ (k : ℕ). length-of k ≤ length r) 
 
 pub length-by-kind : (k : ℕ) → mapping-kind k ≡ true → 0x15_1110_1611_1100 / 2 ^ (8 * k) % 256 ≡ length-of k
 unfolding length-of body-of
-length-by-kind = by-kind (λ k. 0x15_1110_1611_1100 / 2 ^ (8 * k) % 256 ≡ length-of k) refl refl refl refl refl refl
+length-by-kind = mapping-kind-cases (λ k. 0x15_1110_1611_1100 / 2 ^ (8 * k) % 256 ≡ length-of k) refl refl refl refl refl refl
 
 -- where the span stands, by kind
 abbrev span-by-kind : ℕ → ℕ
@@ -147,7 +109,7 @@ span-at-held r at held is =
       frame = mapping-by-kind (λ k m. number 5 (span-by-kind k + 6) r ≡ m .frame) r refl refl refl refl refl refl held;
       fits =
           le-trans
-          (by-kind (λ k. span-by-kind k + 11 ≤ length-of k) (lit≤ tt) (lit≤ tt) (lit≤ tt) (lit≤ tt) (lit≤ tt) (lit≤ tt) (kind-of r) (held .known))
+          (mapping-kind-cases (λ k. span-by-kind k + 11 ≤ length-of k) (lit≤ tt) (lit≤ tt) (lit≤ tt) (lit≤ tt) (lit≤ tt) (lit≤ tt) (kind-of r) (held .known))
           (held .fits);
     })
 
@@ -194,78 +156,3 @@ global-tests r held =
     mapping-by-kind (λ k m. ((eqb (m .kind) 1 || eqb (m .kind) 3) && eqb (number 1 5 r) 1) ≡ global-translation m) r
     refl refl refl refl refl refl
     held
-
--- ---- the length of a valid record
-
--- no record starts where its kind is not known
-pub record-length-unknown : (r : List ℕ) → mapping-kind (kind-of r) ≡ false → record-length r ≡ 0
-unfolding record-length starts-record
-record-length-unknown r e = rw e
-
--- nor where the bytes are fewer than the kind's
-pub record-length-short : (r : List ℕ) → length r < length-of (kind-of r) → record-length r ≡ 0
-unfolding record-length starts-record
-record-length-short r short = rw (lt-leb (length-of (kind-of r)) (length r) short, and-false)
-
--- the fields of a held record decide
-pub record-length-held : (r : List ℕ) (b : Bool) → Held r → fields-in-range (mapping r) ≡ b → record-length r ≡ cond b (length-of (kind-of r)) 0
-unfolding record-length starts-record
-record-length-held r b held is = rw (held .known, le-leb (length-of (kind-of r)) (length r) (held .fits), is)
-
--- ---- what a length says
-
--- a record starts at the front where its length is not 0
-pub starts-of-record-length : (r : List ℕ) → (record-length r ≡ 0 → ⊥) → starts-record r ≡ true
-unfolding record-length
-starts-of-record-length r some = go (starts-record r) refl
-  where
-    go : (b : Bool) → starts-record r ≡ b → b ≡ true
-    go true e = refl
-    go false e = absurd (some (rw e))
-
--- and then it is held
-pub held-of-starts : (r : List ℕ) → starts-record r ≡ true → Held r
-unfolding starts-record
-held-of-starts r starts =
-    let outer = and-eq-true-iff _ _ .0 starts in
-    let inner = and-eq-true-iff _ _ .0 (outer .0) in
-    record { known = inner .0; fits = leb-true (length-of (kind-of r)) (length r) (inner .1) }
-
-pub held-of-record-length : (r : List ℕ) → (record-length r ≡ 0 → ⊥) → Held r
-held-of-record-length r some = held-of-starts r (starts-of-record-length r some)
-
--- the length is its kind's
-pub record-length-is : (r : List ℕ) → (record-length r ≡ 0 → ⊥) → record-length r ≡ length-of (kind-of r)
-unfolding record-length
-record-length-is r some = rw (starts-of-record-length r some)
-
--- no record starts where the length is 0
-pub starts-of-no-length : (r : List ℕ) → record-length r ≡ 0 → starts-record r ≡ false
-unfolding record-length
-starts-of-no-length r none = go (starts-record r) refl
-  where
-    go : (b : Bool) → starts-record r ≡ b → b ≡ false
-    go true e =
-        let held = held-of-starts r e in
-        let least : 16 ≤ length-of (kind-of r) = least-length (kind-of r) (held .known) in
-        let zero : length-of (kind-of r) ≡ 0 = rw e at none in
-        absurd (omega arith)
-    go false e = refl
-
--- what the reader answers, by the length
-pub reading-nothing : (r : List ℕ) → record-length r ≡ 0 → reading r ≡ Nothing
-unfolding reading
-reading-nothing r none = rw (starts-of-no-length r none)
-
-pub reading-record : (r : List ℕ) → (record-length r ≡ 0 → ⊥) → reading r ≡ Record (mapping r) (record-length r)
-unfolding reading record-length
-reading-record r some = rw (starts-of-record-length r some)
-
--- a record lies within the bytes
-pub record-length-within : (r : List ℕ) → record-length r ≤ length r
-unfolding record-length
-record-length-within r = go (starts-record r) refl
-  where
-    go : (b : Bool) → starts-record r ≡ b → cond b (length-of (kind-of r)) 0 ≤ length r
-    go true e = held-of-starts r e .fits
-    go false e = zero-le

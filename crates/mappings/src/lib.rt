@@ -7,7 +7,8 @@ ghost use mathlib.Core.Path.{_≡_};
 ghost use Prim.Native.Nat.{_≤_, _*_, _/_, _%_, _^_};
 ghost use Rattle.model.specs.Layouts.{kind-of, mapping-kind, length-of};
 ghost use Rattle.model.specs.Mappings.{mapping, record-length, reading, span-in-range, page-in-range, fields-in-range, global-translation, covers};
-ghost use Rattle.mappings.specs.Held.{Held, SpanAt};
+ghost use Rattle.laws.specs.Mappings.{Held};
+ghost use Rattle.mappings.specs.Spans.{SpanAt};
 
 // How long a record is, by kind, a byte for each, kind 0 in the lowest.
 const LENGTHS: u64 = 0x15_1110_1611_1100;

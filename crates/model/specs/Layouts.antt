@@ -1,6 +1,6 @@
 -- Document 01, the two tables of kinds: "Mapping records" and "Events". Every layout is a row of
 -- these tables, and one reader, `field`, serves them all.
-use Prim.Native.Nat.{ℕ, zero, suc, _+_}
+use Prim.Native.Nat.{ℕ, _+_}
 use mathlib.Core.Bool.{Bool, true, false, cond}
 use mathlib.Core.List.{List, [], _∷_, _++_}
 use lib.Dec.{eqb}

@@ -1,7 +1,7 @@
 // Little-endian numbers in bytes. Every function reads only the bytes that it names.
 ghost use mathlib.Core.Path.{_≡_};
 ghost use Prim.Native.Nat.{_+_, _<_, _≤_, _^_};
-ghost use lib.ListN.{length, getD};
+ghost use lib.ListN.{length};
 ghost use Rattle.model.specs.Bits.{number};
 
 // The number of one byte.

@@ -11,7 +11,7 @@ use Rattle.model.specs.declared.Context.{Context}
 use Rattle.model.specs.Answers.{first, table-grounds, event-grounds, grounds, answer}
 use Rattle.model.specs.Mappings.{record-length}
 use Rattle.model.specs.Steps.{in-scope, dropped-count}
-use Rattle.model.specs.Tables.{limit, cut, records-within, records}
+use Rattle.model.specs.Tables.{cut, records-within, records}
 use Rattle.laws.specs.Lists.{Every, none, more}
 use Rattle.laws.specs.Tables.{count-le}
 use Rattle.runs.specs.Book.{Report}

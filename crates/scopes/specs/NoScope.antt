@@ -1,6 +1,6 @@
 -- The events that have no record in scope, whatever the table is.
 use mathlib.Core.Bool.{Bool, true, false, not, false≢true}
-use mathlib.Core.Path.{_≡_, refl, sym, _∙_}
+use mathlib.Core.Path.{_≡_, refl}
 use borrow.Author.Tests.{not-true}
 use lib.Dec.{eqb}
 use Rattle.model.specs.declared.Context.{Context}

@@ -7,7 +7,7 @@ use model::Violation;
 ghost use mathlib.Core.Path.{_≡_};
 ghost use Rattle.model.specs.Mappings.{mapping};
 ghost use Rattle.model.specs.Scopes.{vpid-tagged, invvpid-scope, invept-scope, invlpg-scope, guest-physical-violation-scope, combined-violation-scope, transition-scope, scope};
-ghost use Rattle.mappings.specs.Held.{Held};
+ghost use Rattle.laws.specs.Mappings.{Held};
 ghost use Rattle.scopes.specs.NoScope.{without-scope};
 
 // The record is a linear or combined mapping, kinds 1, 3, 4 and 6, which carry a VPID and a PCID.

@@ -1,11 +1,14 @@
 -- Each arm's kind is what its reader requires; kinds 22, 23 and 25 have a kind byte alone.
 use mathlib.Core.Logic.{inl, inr}
 use mathlib.Core.Path.{refl}
+use native.Mathlib.Nat.{le-of-suc-le-suc}
 use native.Mathlib.Omega.{arith}
 use borrow.Author.Needs.{needs}
+use borrow.Author.Tests.{le-leb}
 use Rattle.model.specs.Layouts.{kind-of, mapping-kind, event-kind, length-of, body-of}
 use Rattle.model.specs.Events.{event, event-in-range}
-use Rattle.events.proofs.Laws.{invalid-empty, invalid-kind, invalid-length, mapping-kind-within, read-valid}
+use Rattle.laws.specs.Layouts.{mapping-kind-range}
+use Rattle.events.proofs.Laws.{invalid-empty, invalid-kind, invalid-length, read-valid}
 use Rattle.events.proofs.read_event.Statement.{statement}
 use Rattle.events.proofs.read_event.Tie as tie
 
@@ -45,7 +48,7 @@ read-new-pcid-requires c κs = c .match .keys9
 
 read-creation-requires : tie.Need-read-creation-requires
 unfolding kind-of
-read-creation-requires c κs = mapping-kind-within _ (c .before .if5 .left) (c .if6 .taken)
+read-creation-requires c κs = rw (mapping-kind-range, le-leb 1 _ (c .before .if5 .left), le-leb _ 6 (le-of-suc-le-suc (c .if6 .taken)))
 
 returns-2 : tie.Need-returns-2
 returns-2 c = search needs

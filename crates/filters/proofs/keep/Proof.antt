@@ -1,16 +1,14 @@
 -- `keep` keeps the loop's invariant `Sweep`: a record in scope ends a run, any other record lengthens
 -- it. The measure is what is left of the table.
-use Prim.Native.Nat.{ℕ, suc, _+_, _-_, _<_, _≤_}
-use mathlib.Core.Path.{_≡_, sym, ap, _∙_}
+use Prim.Native.Nat.{_-_}
+use mathlib.Core.Path.{_≡_, sym, _∙_}
 use native.Mathlib.Omega.{arith}
 use denote.Ref.{now}
-use lib.ListN.{length, take, drop, length-drop}
-use Rattle.model.specs.Layouts.{kind-of, length-of}
+use lib.ListN.{length, drop}
 use Rattle.model.specs.Mappings.{mapping}
 use Rattle.model.specs.Scopes.{scope}
-use Rattle.laws.specs.Tables.{rest-of-drop}
+use Rattle.laws.specs.Tables.{rest-of-drop, Next, held-of-whole, next-of-whole}
 use Rattle.filters.specs.Sweep.{Sweep, sweep-start, sweep-keep, sweep-drop, sweep-end}
-use Rattle.filters.specs.Walk.{Next, next-of-whole}
 use Rattle.filters.proofs.keep.Statement.{statement}
 use Rattle.filters.proofs.keep.Tie as tie
 
@@ -23,12 +21,6 @@ abbrev μ-loop : tie.MeasureT-loop
 loop-holds : tie.Need-loop-holds Inv-loop μ-loop
 loop-holds c = let s = c .before .before in sweep-start (s .args .c) (s .args .e) _ _ (s .pre .0) (s .pre .1)
 
--- the record at the position, in a turn of the loop
-next : (c : tie.In-loop Inv-loop μ-loop) → Next (drop (c .before .loop .at) (now (c .before .before .before .before .args .table)))
-next c =
-    let t = now (c .before .before .before .before .args .table) in
-    next-of-whole (drop (c .before .loop .at) t) (c .before .loop .inv .rest) (omega (arith, length-drop (c .before .loop .at) t))
-
 sub-part : tie.Need-sub-part Inv-loop μ-loop
 sub-part c = omega arith
 
@@ -39,19 +31,17 @@ part-part-end : tie.Need-part-part-end Inv-loop μ-loop
 part-part-end c = omega arith
 
 length-of-held-requires : tie.Need-length-of-held-requires Inv-loop μ-loop
-length-of-held-requires c κs = rw rest-of-drop (next (c .before) .held)
+length-of-held-requires c κs = held-of-whole _ _ (c .before .before .loop .inv .rest) (c .before .loop-test .taken)
 
--- its length is the one that was read
-size : (c : tie.After-length-of-held Inv-loop μ-loop) → c .length-of-held .result ≡ suc (next (c .before .before) .less)
-size c = rw rest-of-drop at (c .length-of-held .ensures) ∙ next (c .before .before) .size
+-- the record at the position, in a turn of the loop
+next : (c : tie.After-length-of-held Inv-loop μ-loop) → Next (now (c .before .before .before .before .before .before .args .table)) (c .before .before .before .loop .at) (c .length-of-held .result)
+next c = next-of-whole _ _ (c .before .before .before .loop .inv .rest) (c .before .before .loop-test .taken) (c .length-of-held .ensures)
 
 add-end : tie.Need-add-end Inv-loop μ-loop
-add-end c =
-    let t = now (c .before .before .before .before .before .before .args .table) in
-    omega (arith, size c, next (c .before .before) .within, length-drop (c .before .before .before .loop .at) t)
+add-end c = omega (arith, next c .within)
 
 is-in-scope-requires : tie.Need-is-in-scope-requires Inv-loop μ-loop
-is-in-scope-requires c κs = rw rest-of-drop (next (c .before .before) .held)
+is-in-scope-requires c κs = held-of-whole _ _ (c .before .before .before .loop .inv .rest) (c .before .before .loop-test .taken)
 
 copy-run-requires : tie.Need-copy-run-requires Inv-loop μ-loop
 copy-run-requires c κs =
@@ -68,27 +58,26 @@ add-dropped : tie.Need-add-dropped Inv-loop μ-loop
 add-dropped c = omega arith
 
 loop-less : tie.Need-loop-less Inv-loop μ-loop
-loop-less c = omega (arith, size (c .before .before .before .before .before .before))
+loop-less c = omega (arith, next (c .before .before .before .before .before .before))
 
 loop-again : tie.Need-loop-again Inv-loop μ-loop
 loop-again c =
     let a = c .before .before .before .before .before .before .before .before .before .before .before .before .args in
     let l = c .before .before .before .before .before .before .before .before .before .loop in
     let swept =
-    sweep-drop (a .c) (a .e) (now (a .table)) (now (a .new)) (l .at) (l .from) (l .to) (l .dropped) (l .new) (l .inv) (next (c .before .before .before .before .before .before .before .before))
+    sweep-drop (a .c) (a .e) (now (a .table)) (now (a .new)) (l .at) (l .from) (l .to) (l .dropped) (l .new) (l .inv) (next (c .before .before .before .before .before .before))
     (sym (told (c .before .before .before .before .before)) ∙ c .before .before .before .before .if1 .taken) in
-    rw (size (c .before .before .before .before .before .before), c .before .before .copy-run .ensures .0, c .before .before .copy-run .ensures .1) swept
+    rw (c .before .before .copy-run .ensures .0, c .before .before .copy-run .ensures .1) swept
 
 loop-less-2 : tie.Need-loop-less-2 Inv-loop μ-loop
-loop-less-2 c = omega (arith, size (c .before .before))
+loop-less-2 c = omega (arith, next (c .before .before))
 
 loop-again-2 : tie.Need-loop-again-2 Inv-loop μ-loop
 loop-again-2 c =
     let a = c .before .before .before .before .before .before .before .before .args in
     let l = c .before .before .before .before .before .loop in
-    rw (size (c .before .before))
-    (sweep-keep (a .c) (a .e) (now (a .table)) (now (a .new)) (l .at) (l .from) (l .to) (l .dropped) (l .new) (l .inv) (next (c .before .before .before .before))
-    (sym (told (c .before)) ∙ c .if1 .left))
+    sweep-keep (a .c) (a .e) (now (a .table)) (now (a .new)) (l .at) (l .from) (l .to) (l .dropped) (l .new) (l .inv) (next (c .before .before))
+    (sym (told (c .before)) ∙ c .if1 .left)
 
 copy-run-requires-2 : tie.Need-copy-run-requires-2 Inv-loop μ-loop
 copy-run-requires-2 c κs =

@@ -1,10 +1,11 @@
 -- What is left to find stands behind the position of the walk. The measure is what is left of the length.
-use Prim.Native.Nat.{_+_, _-_, _<_}
+use Prim.Native.Nat.{_-_}
 use native.Mathlib.Omega.{arith}
 use borrow.Author.Needs.{needs}
+use denote.Ref.{now}
 use lib.ListN.{length}
-use Rattle.tables.specs.Walk.{Walked}
-use Rattle.lookups.specs.Searching.{Searching, search-start, search-end, search-held, search-walked, search-longer, search-skip, search-next, search-found}
+use Rattle.laws.specs.Tables.{Next, held-of-whole, next-of-whole}
+use Rattle.lookups.specs.Searching.{Searching, search-start, search-end, search-skip, search-next, search-found}
 use Rattle.lookups.proofs.search.Statement.{statement}
 use Rattle.lookups.proofs.search.Tie as tie
 
@@ -15,7 +16,7 @@ abbrev μ-loop : tie.MeasureT-loop
 μ-loop c a table k at₀ left₀ at left = length table - at
 
 loop-holds : tie.Need-loop-holds Inv-loop μ-loop
-loop-holds c = search-start _ _ _ _
+loop-holds c = search-start _ _ _ _ (c .before .pre)
 
 sub-part : tie.Need-sub-part Inv-loop μ-loop
 sub-part c = search needs
@@ -27,44 +28,41 @@ part-part-end : tie.Need-part-part-end Inv-loop μ-loop
 part-part-end c = search needs
 
 length-of-held-requires : tie.Need-length-of-held-requires Inv-loop μ-loop
-length-of-held-requires c κs = search-held (c .before .before .loop .inv) (c .before .before .before .before .pre) (c .before .if1 .left)
+length-of-held-requires c κs = held-of-whole _ _ (c .before .before .loop .inv .rest) (c .before .if1 .left)
 
--- the walk behind the record that was read
-walked : (c : tie.After-length-of-held Inv-loop μ-loop) → Walked (c .before .before .before .before .before .args .table .now) (c .before .before .before .loop .at + c .length-of-held .result)
-walked c = search-walked (c .before .before .before .loop .inv) (c .before .before .before .before .before .pre) (c .before .before .if1 .left) (c .length-of-held .ensures)
-
-longer : (c : tie.After-length-of-held Inv-loop μ-loop) → 0 < c .length-of-held .result
-longer c = search-longer (c .before .before .before .loop .inv) (c .before .before .before .before .before .pre) (c .before .before .if1 .left) (c .length-of-held .ensures)
+-- the record at the position, in a turn of the loop
+next : (c : tie.After-length-of-held Inv-loop μ-loop) → Next (now (c .before .before .before .before .before .args .table)) (c .before .before .before .loop .at) (c .length-of-held .result)
+next c = next-of-whole _ _ (c .before .before .before .loop .inv .rest) (c .before .before .if1 .left) (c .length-of-held .ensures)
 
 add-end : tie.Need-add-end Inv-loop μ-loop
-add-end c = omega (arith, walked c)
+add-end c = omega (arith, next c .within)
 
 is-usable-requires : tie.Need-is-usable-requires Inv-loop μ-loop
-is-usable-requires c κs = search-held (c .before .before .before .loop .inv) (c .before .before .before .before .before .pre) (c .before .before .if1 .left)
+is-usable-requires c κs = held-of-whole _ _ (c .before .before .before .loop .inv .rest) (c .before .before .if1 .left)
 
 sub-left : tie.Need-sub-left Inv-loop μ-loop
 sub-left c = search needs
 
 loop-less : tie.Need-loop-less Inv-loop μ-loop
-loop-less c = omega (arith, walked (c .before .before .before), longer (c .before .before .before))
+loop-less c = omega (arith, next (c .before .before .before))
 
 loop-again : tie.Need-loop-again Inv-loop μ-loop
 loop-again c =
-    search-next (c .before .before .before .before .before .before .loop .inv) (c .before .before .before .before .before .before .before .before .pre) (c .before .before .before .before .before .if1 .left) (c .before .before .before .length-of-held .ensures) (c .before .before .is-usable .ensures) (c .before .if2 .taken) (c .if3 .left)
+    search-next (c .before .before .before .before .before .before .loop .inv) (next (c .before .before .before)) (c .before .before .is-usable .ensures) (c .before .if2 .taken) (c .if3 .left)
 
 loop-less-2 : tie.Need-loop-less-2 Inv-loop μ-loop
-loop-less-2 c = omega (arith, walked (c .before .before), longer (c .before .before))
+loop-less-2 c = omega (arith, next (c .before .before))
 
 loop-again-2 : tie.Need-loop-again-2 Inv-loop μ-loop
 loop-again-2 c =
-    search-skip (c .before .before .before .before .before .loop .inv) (c .before .before .before .before .before .before .before .pre) (c .before .before .before .before .if1 .left) (c .before .before .length-of-held .ensures) (c .before .is-usable .ensures) (c .if2 .left)
+    search-skip (c .before .before .before .before .before .loop .inv) (next (c .before .before)) (c .before .is-usable .ensures) (c .if2 .left)
 
 returns : tie.Need-returns Inv-loop μ-loop
 returns c = search-end (c .before .loop .inv) (c .if1 .taken)
 
 returns-2 : tie.Need-returns-2 Inv-loop μ-loop
 returns-2 c =
-    search-found (c .before .before .before .before .before .before .loop .inv) (c .before .before .before .before .before .before .before .before .pre) (c .before .before .before .before .before .if1 .left) (c .before .before .before .length-of-held .ensures) (c .before .before .is-usable .ensures) (c .before .if2 .taken) (c .if3 .taken)
+    search-found (c .before .before .before .before .before .before .loop .inv) (next (c .before .before .before)) (c .before .before .is-usable .ensures) (c .before .if2 .taken) (c .if3 .taken)
 
 pub search-spec : {M : Type 1} → statement M
 search-spec =

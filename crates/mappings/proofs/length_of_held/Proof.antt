@@ -3,7 +3,8 @@ use borrow.Author.Needs.{needs}
 use mathlib.Core.Path.{_∙_}
 use native.Mathlib.Omega.{arith}
 use Rattle.model.specs.Mappings.{mapping}
-use Rattle.mappings.specs.Fields.{kind-below, length-by-kind}
+use Rattle.laws.specs.Layouts.{mapping-kind-le}
+use Rattle.mappings.specs.Fields.{length-by-kind}
 use Rattle.mappings.proofs.length_of_held.Statement.{statement}
 use Rattle.mappings.proofs.length_of_held.Tie as tie
 
@@ -12,7 +13,7 @@ kind-requires c κs = search needs
 
 of-kind-requires : tie.Need-of-kind-requires
 unfolding mapping
-of-kind-requires c κs = omega (arith, c .kind .ensures, kind-below _ (c .before .before .pre .known))
+of-kind-requires c κs = omega (arith, c .kind .ensures, mapping-kind-le _ (c .before .before .pre .known))
 
 returns : tie.Need-returns
 unfolding mapping

@@ -6,13 +6,14 @@ use native.Mathlib.Omega.{arith}
 use borrow.Author.Tests.{not-true, not-false}
 use denote.Ref.{now}
 use Rattle.model.specs.Layouts.{kind-of, mapping-kind, length-of}
-use Rattle.mappings.specs.Held.{Held}
-use Rattle.mappings.specs.Fields.{kind-below, length-by-kind, record-length-within, record-length-unknown, record-length-short, record-length-held}
+use Rattle.laws.specs.Layouts.{mapping-kind-le}
+use Rattle.laws.specs.Mappings.{Held, record-length-le, record-length-unknown, record-length-short, record-length-held}
+use Rattle.mappings.specs.Fields.{length-by-kind}
 use Rattle.mappings.proofs.length_of_record.Statement.{statement}
 use Rattle.mappings.proofs.length_of_record.Tie as tie
 
 returns : tie.Need-returns
-returns c = omega (arith, record-length-within (now (c .before .before .args .part)))
+returns c = omega (arith, record-length-le (now (c .before .before .args .part)))
 
 number1-requires : tie.Need-number1-requires
 number1-requires c κs = search needs
@@ -33,7 +34,7 @@ known c = sym (said (c .before)) ∙ not-false _ (c .if2 .left)
 
 of-kind-requires : tie.Need-of-kind-requires
 unfolding kind-of
-of-kind-requires c κs = omega (arith, kind-below _ (known c), c .before .before .number1 .ensures .0)
+of-kind-requires c κs = omega (arith, mapping-kind-le _ (known c), c .before .before .number1 .ensures .0)
 
 -- the length that was read
 read : (c : tie.After-of-kind) → c .of-kind .result ≡ length-of (kind-of (now (c .before .before .before .before .before .before .args .part)))

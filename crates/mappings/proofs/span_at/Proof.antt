@@ -1,9 +1,9 @@
 -- The number by kind is where the layout has the span.
 use borrow.Author.Needs.{needs}
-use mathlib.Core.Path.{ap, _∙_}
 use native.Mathlib.Omega.{arith}
 use Rattle.model.specs.Mappings.{mapping}
-use Rattle.mappings.specs.Fields.{kind-below, span-at-held}
+use Rattle.laws.specs.Layouts.{mapping-kind-le}
+use Rattle.mappings.specs.Fields.{span-at-held}
 use Rattle.mappings.proofs.span_at.Statement.{statement}
 use Rattle.mappings.proofs.span_at.Tie as tie
 
@@ -12,7 +12,7 @@ kind-requires c κs = search needs
 
 of-kind-requires : tie.Need-of-kind-requires
 unfolding mapping
-of-kind-requires c κs = omega (arith, c .kind .ensures, kind-below _ (c .before .before .pre .known))
+of-kind-requires c κs = omega (arith, c .kind .ensures, mapping-kind-le _ (c .before .before .pre .known))
 
 returns : tie.Need-returns
 unfolding mapping

@@ -1,6 +1,6 @@
 -- Each arm is a row of the tables of kinds, and the last is of none.
 use Rattle.model.specs.Layouts.{event-kind, length-of, body-of}
-use Rattle.replays.specs.Laws.Logs.{unknown-kind}
+use Rattle.replays.specs.Laws.Logs.{event-kind-none}
 use Rattle.replays.proofs.length_of_kind.Statement.{statement}
 use Rattle.replays.proofs.length_of_kind.Tie as tie
 
@@ -69,7 +69,7 @@ unfolding event-kind length-of body-of
 returns-16 c = rw (c .match .keys16)
 
 returns-17 : tie.Need-returns-17
-returns-17 c = rw (unknown-kind (c .before .args .kind) (c .match .rest))
+returns-17 c = rw (event-kind-none (c .before .args .kind) (c .match .rest))
 
 pub length-of-kind-spec : {M : Type 1} → statement M
 length-of-kind-spec =

@@ -9,26 +9,15 @@ use lib.Dec.{eqb, leb}
 use lib.ListN.{length, take, drop, length-drop, drop-of-length-le}
 use lib.Seq.{drop-drop}
 use borrow.Author.Tests.{leb-true, leb-false, ne-eqb}
-use Rattle.model.specs.Layouts.{Body, mapping-kinds, other-event-kinds, known-in, kind-of, event-kind, length-of}
+use Rattle.model.specs.Layouts.{mapping-kinds, other-event-kinds, kind-of, event-kind, length-of}
 use Rattle.model.specs.Events.{event, event-in-range, valid-event}
-use Rattle.laws.specs.Layouts.{length-of-positive}
+use Rattle.laws.specs.Layouts.{None, known-in-none, length-of-positive}
 use Rattle.replays.specs.Logs.{event-size, events-within, events-of}
 
--- a kind that is in no row of a table, as a `match` over the table's kinds says it behind what was
--- known before, is unknown
-abbrev pub None : Type 0 → List (ℕ × Body) → ℕ → Type 0
-None before [] k = before
-None before (row ∷ rows) k = None (before × (k ≡ row .0 → ⊥)) rows k
-
-pub unknown-in : (before : Type 0) (rows : List (ℕ × Body)) (k : ℕ) → None before rows k → before × (known-in rows k ≡ false)
-unknown-in before [] k none = (none, refl)
-unknown-in before (row ∷ rows) k none =
-    let others = unknown-in (before × (k ≡ row .0 → ⊥)) rows k none in
-    (others .0 .0, rw (ne-eqb k (row .0) (others .0 .1)) (others .1))
-
-pub unknown-kind : (k : ℕ) → None (Unit {0}) (mapping-kinds ++ other-event-kinds) k → event-kind k ≡ false
+-- a kind that is in no row of the tables is unknown
+pub event-kind-none : (k : ℕ) → None (Unit {0}) (mapping-kinds ++ other-event-kinds) k → event-kind k ≡ false
 unfolding event-kind
-unknown-kind k none = unknown-in (Unit {0}) (mapping-kinds ++ other-event-kinds) k none .1
+event-kind-none k none = known-in-none (Unit {0}) (mapping-kinds ++ other-event-kinds) [] k none refl
 
 -- the first event has as many bytes as its kind says, or all of the log where these are fewer
 pub event-size-min : (log : List ℕ)

@@ -5,7 +5,6 @@ use mathlib.Core.List.{List, [], _∷_}
 use lib.ListN.{length}
 use Rattle.model.specs.declared.Context.{Context}
 use Rattle.model.specs.Tables.{limit, joined, records}
-use Rattle.model.specs.Events.{event}
 use Rattle.model.specs.Answers.{answer}
 use Rattle.model.specs.Steps.{dropped-count}
 use Rattle.runs.specs.Book.{standing, Book, opened, book-table, book-answer, book-after, book-report, book-reports, book-of}

@@ -1,5 +1,5 @@
 -- Each place is written out by its own case.
-use mathlib.Core.Path.{_≡_, _∙_, sym, ap}
+use mathlib.Core.Path.{_∙_, sym, ap}
 use Rattle.skuldrefn.specs.Flat.{flatten, flatten-at, flatten-guest}
 use borrow.Author.Needs.{needs}
 use Rattle.skuldrefn.proofs.flat_context.Statement.{statement}

@@ -1,6 +1,6 @@
 -- Unknown numbers are answered 1; else the step's own result is written out.
 use borrow.Author.Tests.{ne-eqb, not-true, not-false}
-use mathlib.Core.Path.{_≡_, _∙_, sym, ap, refl}
+use mathlib.Core.Path.{_∙_, sym, refl}
 use Rattle.skuldrefn.specs.Flat.{flat-step, flat-written}
 use borrow.Author.Needs.{needs}
 use Rattle.skuldrefn.proofs.skuldrefn_step.Statement.{statement}

@@ -1,7 +1,6 @@
 -- A creation is copied whole behind the table; any other event leaves the buffer.
 use borrow.Author.Needs.{needs}
-use mathlib.Core.Path.{_≡_, refl, sym, ap, _∙_}
-use mathlib.Core.Bool.{not}
+use mathlib.Core.Path.{_≡_, sym, ap, _∙_}
 use native.Mathlib.Omega.{arith}
 use native.Mathlib.Nat.{add-zero, sub-zero}
 use borrow.Author.Tests.{not-true, not-false}
@@ -10,7 +9,6 @@ use Prim.Native.Nat.{ℕ, _+_}
 use mathlib.Core.List.{List, _++_}
 use lib.ListN.{length, take, drop, take-append-drop}
 use Rattle.model.specs.Answers.{created}
-use Rattle.model.specs.Layouts.{kind-of, mapping-kind}
 use Rattle.steps.proofs.Laws.{created-creation, created-other, copied-whole}
 use Rattle.steps.proofs.add_creation.Statement.{statement}
 use Rattle.steps.proofs.add_creation.Tie as tie

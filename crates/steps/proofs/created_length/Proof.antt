@@ -1,6 +1,6 @@
 -- A creation adds its own bytes, any other event none.
 use borrow.Author.Needs.{needs}
-use mathlib.Core.Path.{_≡_, refl, sym, ap, _∙_}
+use mathlib.Core.Path.{sym, ap, _∙_}
 use lib.ListN.{length}
 use Rattle.steps.proofs.Laws.{created-creation, created-other}
 use Rattle.steps.proofs.created_length.Statement.{statement}

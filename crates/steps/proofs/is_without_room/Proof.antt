@@ -1,6 +1,5 @@
 -- The sum cannot wrap: slices are short. The smaller of the two limits is below it where one is.
 use borrow.Author.Needs.{needs}
-use mathlib.Core.Path.{_≡_, refl, sym, ap, _∙_}
 use native.Mathlib.Omega.{arith}
 use denote.Ref.{now}
 use Prim.Native.Nat.{_+_}

@@ -1,15 +1,12 @@
 -- The kept records and then the creation are the new table; the bytes behind it stay.
 use borrow.Author.Needs.{needs}
-use mathlib.Core.Path.{_≡_, refl, sym, ap, _∙_}
-use mathlib.Core.List.{_++_}
+use mathlib.Core.Path.{sym, ap, _∙_}
 use native.Mathlib.Omega.{arith}
 use Prim.Native.Nat.{ℕ, _+_}
 use Rattle.model.specs.Scopes.{next-context}
 use denote.Ref.{now}
-use lib.ListN.{length, take, drop, length-append}
+use lib.ListN.{length, length-append}
 use Rattle.model.specs.Answers.{created}
-use Rattle.model.specs.Steps.{new-table, dropped-count, overwritten}
-use Rattle.laws.specs.Steps.{length-overwritten}
 use Rattle.filters.specs.Kept.{kept, kept-length}
 use Rattle.steps.proofs.Laws.{new-table-kept, dropped-count-kept, overwritten-behind}
 use Rattle.steps.proofs.perform.Statement.{statement}

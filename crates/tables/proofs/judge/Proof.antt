@@ -2,10 +2,8 @@
 -- counted every record.
 use borrow.Author.Needs.{needs}
 use borrow.Author.Tests.{lt-ltb, le-ltb, ne-eqb, eq-eqb}
-use mathlib.Core.Bool.{true, false}
-use mathlib.Core.Path.{_≡_, refl, sym, _∙_}
+use mathlib.Core.Path.{refl, sym, _∙_}
 use native.Mathlib.Omega.{arith}
-use denote.Ref.{now}
 use Rattle.model.specs.Answers.{first, table-grounds}
 use Rattle.model.specs.Tables.{whole}
 use Rattle.tables.proofs.judge.Statement.{statement}

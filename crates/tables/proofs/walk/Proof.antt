@@ -4,18 +4,18 @@ use Prim.Native.Nat.{_-_}
 use native.Mathlib.Omega.{arith}
 use borrow.Author.Needs.{needs}
 use lib.ListN.{length}
-use Rattle.tables.specs.Walk.{Counted, count-start, count-on, count-stop, count-end}
+use Rattle.tables.specs.Walk.{Walked, walk-start, walk-on, walk-stop, walk-end}
 use Rattle.tables.proofs.walk.Statement.{statement}
 use Rattle.tables.proofs.walk.Tie as tie
 
 abbrev Inv-loop : tie.InvT-loop
-Inv-loop table at₀ records₀ at records = Counted table at records
+Inv-loop table at₀ records₀ at records = Walked table at records
 
 abbrev μ-loop : tie.MeasureT-loop
 μ-loop table at₀ records₀ at records = length table - at
 
 loop-holds : tie.Need-loop-holds Inv-loop μ-loop
-loop-holds c = count-start _
+loop-holds c = walk-start _
 
 sub-length-of-record : tie.Need-sub-length-of-record Inv-loop μ-loop
 sub-length-of-record c = search needs
@@ -30,22 +30,22 @@ length-of-record-requires : tie.Need-length-of-record-requires Inv-loop μ-loop
 length-of-record-requires c κs = search needs
 
 returns : tie.Need-returns Inv-loop μ-loop
-returns c = count-stop (c .before .before .before .before .loop .inv) (c .before .length-of-record .ensures) (c .if1 .taken)
+returns c = walk-stop (c .before .before .before .before .loop .inv) (c .before .length-of-record .ensures) (c .if1 .taken)
 
 loop-again : tie.Need-loop-again Inv-loop μ-loop
-loop-again c = count-on (c .before .before .before .before .loop .inv) (c .before .length-of-record .ensures) (c .if1 .left)
+loop-again c = walk-on (c .before .before .before .before .loop .inv) (c .before .length-of-record .ensures) (c .if1 .left)
 
 add-at : tie.Need-add-at Inv-loop μ-loop
-add-at c = omega (arith, loop-again c .walked)
+add-at c = omega (arith, loop-again c)
 
 add-records : tie.Need-add-records Inv-loop μ-loop
-add-records c = omega (arith, loop-again c .few, loop-again c .walked)
+add-records c = omega (arith, loop-again c)
 
 loop-less : tie.Need-loop-less Inv-loop μ-loop
-loop-less c = omega (arith, loop-again c .walked)
+loop-less c = omega (arith, loop-again c)
 
 returns-2 : tie.Need-returns-2 Inv-loop μ-loop
-returns-2 c = count-end (c .before .loop .inv) (c .loop-test .left)
+returns-2 c = walk-end (c .before .loop .inv) (c .loop-test .left)
 
 pub walk-spec : {M : Type 1} → statement M
 walk-spec =
