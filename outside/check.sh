@@ -50,7 +50,7 @@ echo "outside: fuzz, $(grep 'answers compared' "$tmp/log")"
 run 'cc' cc -std=c99 -Wall -Wextra -Werror -pedantic -O2 -I c c/example.c \
     "$SKULDREFN_LIB/libskuldrefn.a" -o "$tmp/example"
 run 'the C example' "$tmp/example"
-grep -v '^12345678h:' "$tmp/log" >"$tmp/lines"
+grep -v ': ' "$tmp/log" >"$tmp/lines"
 run 'the C example' diff "$tmp/lines" ../examples/five-events.expected
 
 run 'the replay program' cargo run --offline --release -q -p program -- "$replay" ../examples

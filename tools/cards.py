@@ -1,8 +1,8 @@
 #!/usr/bin/env python3
-"""Writes crates/cards/stdin and crates/cards/stdout: the cards of document 01, and what it says of each.
+"""Writes crates/cards/stdin and crates/cards/stdout: the cards of documents 01 and 02, and what they say of each.
 
-The answers, counts and tables below were written by hand from the document. A card in stdin is the
-name's length (1 byte), the table's (2), a mode (0 step, 1 linear and 2 guest-physical lookup), the
+The answers, counts, tables and reasons below were written by hand from the documents. A card in stdin is the
+name's length (1 byte), the table's (2), a mode (0 step, 1 linear and 2 guest-physical lookup, 3 reason), the
 context as eight 8-byte numbers (capability, N, PCID, CPL, place, VPID, EPT, EP4TA), the length of the
 event or question (2), then name, table, and the event, or for a lookup the address and k (8 bytes
 each). All numbers are little-endian.
@@ -144,6 +144,42 @@ LOOKUPS = [
 ]
 
 
+# name, context, record, event, reason, answer: Ask 1's reasons, numbered from 1 in its order
+REASONS = [
+    ("why: N = 53", root(53), A, invvpid(1, 5, 0), 1, 1),
+    ("why: no bytes", root(), b"", invvpid(1, 5, 0), 1, 3),
+    ("why: two records", root(), A + A, invvpid(1, 5, 0), 1, 3),
+    ("why: 45,057 bytes", root(), None, invvpid(1, 5, 0), 1, 3),
+    ("why: an empty event", root(), A, b"", 1, 4),
+    ("why: type 4", root(), A, invvpid(4, 5, 0), 1, 8),
+    ("why: exit outside a guest", root(), A, leave(0), 1, 9),
+    ("why: creation of A", GUEST, A, A, 2, 0),
+    ("why: VMXOFF", root(), A, bytes([23]), 2, 0),
+    ("why: entry with VPIDs", root(), A, entry(1, 5, 0, 0, 1, 0), 2, 0),
+    ("why: exit with VPIDs", GUEST, A, leave(0), 2, 0),
+    ("why: INVLPG of a non-canonical address, kind 2", EPT_GUEST, G, invlpg(2**47), 3, 0),
+    ("why: INVVPID 1, kind 2", root(), G, invvpid(1, 5, 0), 4, 0),
+    ("why: INVEPT 2, kind 1", root(), A, invept(2, 0, 0), 4, 0),
+    ("why: EPT violation with flag 0, kind 3", EPT_GUEST, combined(9, 9, 0, 0, 0), violation(0, 0, 0), 4, 0),
+    ("why: INVVPID 1 of another VPID", root(), A, invvpid(1, 6, 0), 5, 0),
+    ("why: INVVPID 2 of VPID 0", root(), linear(0, 1, 0, 0, 0), invvpid(2, 0, 0), 5, 0),
+    ("why: entry without VPIDs, VPID 5", root(), A, entry(0, 0, 0, 0, 1, 0), 5, 0),
+    ("why: EPT violation, kind 3 of another VPID and PCID", EPT_GUEST, combined(9, 9, 0, 0, 0), violation(0, 1, 0), 5, 0),
+    ("why: INVLPG, PCID 2 and another page", GUEST, linear(5, 2, 0, 0, 0x12345), invlpg(0), 6, 0),
+    ("why: INVLPG, structure cache of PCID 2", GUEST, linear_structure(5, 2, 1, 0), invlpg(0), 6, 0),
+    ("why: EPT violation, global of another PCID", EPT_GUEST, combined(5, 2, 1, 0, 0), violation(0, 1, 0), 6, 0),
+    ("why: INVEPT 1 of another EP4TA", root(), G, invept(1, 0x1E, 0), 7, 0),
+    ("why: type 0, address 12346000h", root(), A, invvpid(0, 5, 0x12346000), 8, 0),
+    ("why: INVLPG, global of PCID 2 and another page", GUEST, linear(5, 2, 1, 0, 0x12345), invlpg(0), 8, 0),
+    ("why: EPT violation, G and another page", EPT_GUEST, G, violation(0, 0, 0), 8, 0),
+    ("why: A with global 1 under type 3", root(), linear(5, 1, 1, 0, 0x12345), invvpid(3, 5, 0), 9, 0),
+    ("why: A under type 3", root(), A, invvpid(3, 5, 0), 10, 0),
+    ("why: INVLPG, global of PCID 2", GUEST, linear(5, 2, 1, 0, 0x12345), invlpg(0x12345678), 10, 0),
+    ("why: EPT violation, G", EPT_GUEST, G, violation(0x10000, 0, 0), 10, 0),
+    ("why: reset", root(), G, bytes([25]), 10, 0),
+]
+
+
 def card(name, mode, context, table, extra):
     head = bytes([len(name)]) + le(2, len(table)) + bytes([mode])
     return head + b"".join(le(8, x) for x in context) + le(2, len(extra)) + name.encode() + table + extra
@@ -161,6 +197,9 @@ def main():
     for name, context, table, mode, address, k, answer, start, part in LOOKUPS:
         given += card(name, mode, context, table, le(8, address) + le(8, k))
         expected += f"{name}: {answer} {start} {len(part)} {part.hex()}\n"
+    for name, context, record, event, reason, answer in REASONS:
+        given += card(name, 3, context, bytes(45057) if record is None else record, event)
+        expected += f"{name}: {reason} {answer} \n"
     crate = os.path.join(os.path.dirname(__file__), "..", "crates", "cards")
     with open(os.path.join(crate, "stdin"), "wb") as f:
         f.write(given)

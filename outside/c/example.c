@@ -1,5 +1,5 @@
 /*
- * Document 01's five events, one step each, and a lookup between them.
+ * Document 01's five events, one step each; a lookup and a reason between them.
  *
  *     cc -I outside/c outside/c/example.c target/staticlib/libskuldrefn.a
  */
@@ -68,6 +68,14 @@ int main(void)
                 && memcmp(buffers[in_force] + part.start, creation, sizeof creation) == 0;
             printf("12345678h: %s\n", found ? "the record just created" : "nothing");
             wrong |= !found;
+        }
+        if (events[i].event == leave) {
+            /* What the next event will do with the record, and why. */
+            skuldrefn_reason why = skuldrefn_explain(
+                context, creation, sizeof creation, invvpid, sizeof invvpid);
+            int taken = why.reason == SKULDREFN_IN_SCOPE && why.answer == 0;
+            printf("INVVPID: %s the record\n", taken ? "takes" : "leaves");
+            wrong |= !taken;
         }
     }
     return wrong;

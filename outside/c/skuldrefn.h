@@ -15,7 +15,7 @@
  * Any other pointer must be good for its length. Bytes need no alignment.
  *
  * Every other input is answered: any number in any field, any bytes in a
- * table, an event or a log, and any length of a buffer.
+ * table, a record, an event or a log, and any length of a buffer.
  *
  * Tables, events and the fields below are those of document 01 ("Mapping
  * records", "Events", "Context"): one byte of kind, then a body whose length
@@ -39,7 +39,8 @@ extern "C" {
 
 /*
  * The answers. The lowest number that applies is given, and only then.
- * skuldrefn_step gives 0 to 12, a lookup 0 to 3.
+ * skuldrefn_step gives 0 to 12, a lookup 0 to 3. A refusal that
+ * skuldrefn_explain names is 1 or 3 to 11.
  */
 enum {
     SKULDREFN_ACCEPTED = 0,      /* none of the others applies */
@@ -144,6 +145,41 @@ skuldrefn_part skuldrefn_lookup_guest_physical(
     skuldrefn_context context,
     const uint8_t *table, size_t table_length,
     uint64_t address, uint64_t k);
+
+/*
+ * The reasons. The first that holds is given; each counts only where the event
+ * tests it for that kind of record.
+ */
+enum {
+    SKULDREFN_REFUSED = 1,       /* the step is refused */
+    SKULDREFN_NO_SCOPE = 2,      /* the event has no scope: a creation, VMXON,
+                                    VMXOFF, a new PCID and CPL, VM entry or VM
+                                    exit with VPIDs enabled */
+    SKULDREFN_NOT_CANONICAL = 3, /* INVLPG: the address is not canonical */
+    SKULDREFN_WRONG_KIND = 4,    /* the event touches no record of this kind */
+    SKULDREFN_WRONG_VPID = 5,
+    SKULDREFN_WRONG_PCID = 6,
+    SKULDREFN_WRONG_EP4TA = 7,
+    SKULDREFN_NOT_COVERED = 8,   /* the record does not cover the address */
+    SKULDREFN_SPARED = 9,        /* the record is spared as global */
+    SKULDREFN_IN_SCOPE = 10      /* the step drops the record */
+};
+
+/* Why a mapping went or stayed. */
+typedef struct {
+    uint64_t reason; /* 1 to 10 */
+    uint64_t answer; /* with reason 1 the step's answer, else 0 */
+} skuldrefn_reason;
+
+/*
+ * Why an event takes a record or leaves it. The step is judged with a table of
+ * that record alone and a new buffer of 45,056 bytes; bytes that are not
+ * exactly one valid record are answered 3. Record and event are only read.
+ */
+skuldrefn_reason skuldrefn_explain(
+    skuldrefn_context context,
+    const uint8_t *record, size_t record_length,
+    const uint8_t *event, size_t event_length);
 
 /* What a replay reports. */
 typedef struct {

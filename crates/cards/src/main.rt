@@ -1,8 +1,8 @@
-// The cards of document 01 and its five mistakes, run on the code. They come from standard input, the
+// The cards of document 01, its five mistakes and the reasons of document 02, run on the code. They come from standard input, the
 // file stdin, and what is expected, the file stdout, was written from the document; tools/cards.py has
 // the format. Each line is a card's name, the answer, the dropped count, the length, the context's eight
 // numbers, and the new buffer, which held ee in every byte; for a lookup the answer, the start, the
-// length and the part.
+// length and the part; for a reason (document 02, Ask 1) its number and its answer.
 use libc::STDIN_FILENO;
 use libc::STDOUT_FILENO;
 use model::Address;
@@ -87,6 +87,13 @@ fn look_up(c: FlatContext, mode: u8, table: &[u8], question: &[u8]) {
     }
 }
 
+// Why an event drops the one record of a table or leaves it.
+fn explain(c: FlatContext, bytes: &[u8], event: &[u8]) {
+    let why = skuldrefn::skuldrefn_explain(c, bytes, event);
+    write_number(why.reason);
+    write_number(why.answer);
+}
+
 // Runs the card at the front and answers how many bytes it takes, or 0 where no whole card is left.
 fn card(s: &[u8]) -> usize
     ensures { λ r. ⌜ r ≤ length (now (s .entry)) ⌝ }
@@ -111,6 +118,8 @@ fn card(s: &[u8]) -> usize
     let mode = s[3];
     if mode == 0 {
         step(c, table, extra);
+    } else if mode == 3 {
+        explain(c, table, extra);
     } else {
         look_up(c, mode, table, extra);
     }
@@ -130,7 +139,7 @@ fn run(s: &[u8]) {
 }
 
 fn main() {
-    let mut input = [0u8; 65536];
+    let mut input = [0u8; 131072];
     let n = io::read_full(STDIN_FILENO, &mut input);
     run(&input[..n]);
 }

@@ -1,16 +1,18 @@
--- Events: a valid creation is an exactly valid record.
+-- Events: what the event reader's answer says, and that a valid creation is an exactly valid record.
 use Prim.Native.Nat.{ℕ}
-use mathlib.Core.Path.{_≡_}
-use mathlib.Core.Bool.{true, _&&_, and-eq-true-iff}
+use mathlib.Core.Path.{_≡_, refl}
+use mathlib.Core.Bool.{Bool, true, false, cond, _&&_, and-eq-true-iff}
 use mathlib.Core.List.{List}
 use native.Mathlib.Omega.{arith}
 use lib.Dec.{eqb}
 use lib.ListN.{length}
 use borrow.Author.Tests.{eqb-true}
+use Rattle.model.specs.declared.Event.{Event}
 use Rattle.model.specs.declared.Event.the-variants.{Creation}
+use Rattle.model.specs.declared.EventReading.the-variants.{Read, Invalid}
 use Rattle.model.specs.Layouts.{kind-of, mapping-kind, event-kind, length-of}
 use Rattle.model.specs.Mappings.{mapping}
-use Rattle.model.specs.Events.{event, event-in-range, valid-event}
+use Rattle.model.specs.Events.{event, event-in-range, valid-event, event-reading}
 use Rattle.laws.specs.Mappings.{Valid, valid-made, starts-made}
 
 -- what it is that an event is valid, part by part
@@ -37,3 +39,20 @@ creation-valid e v k =
     valid-made e
     (starts-made e (record { held = record { known = k; fits = omega (arith, p .exact) }; fields = rw (event-creation e k) at (p .fields) }))
     (p .exact)
+
+-- what the event reader's answer says of the bytes
+pub valid-event-read : (e : List ℕ) (x : Event) → event-reading e ≡ Read x → (valid-event e ≡ true) × (x ≡ event e)
+unfolding event-reading
+valid-event-read e x h = go (valid-event e) refl h
+  where
+    go : (b : Bool) → valid-event e ≡ b → cond b (Read (event e)) Invalid ≡ Read x → (valid-event e ≡ true) × (x ≡ event e)
+    go true v k = (v, cc)
+    go false v k = absurd (let z : _≡_ {A = ℕ} 0 1 = cc in omega arith)
+
+pub valid-event-invalid : (e : List ℕ) → event-reading e ≡ Invalid → valid-event e ≡ false
+unfolding event-reading
+valid-event-invalid e h = go (valid-event e) refl h
+  where
+    go : (b : Bool) → valid-event e ≡ b → cond b (Read (event e)) Invalid ≡ Invalid → valid-event e ≡ false
+    go true v k = absurd (let z : _≡_ {A = ℕ} 0 1 = cc in omega arith)
+    go false v k = v

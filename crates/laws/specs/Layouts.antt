@@ -70,6 +70,12 @@ pub length-of-positive : (kind : ℕ) → 0 < length-of kind
 unfolding length-of
 length-of-positive kind = omega arith
 
+-- a mapping's record has at most 22 bytes
+pub length-of-mapping-le : (kind : ℕ) → mapping-kind kind ≡ true → length-of kind ≤ 22
+unfolding length-of body-of
+length-of-mapping-le =
+    mapping-kind-cases (λ k. length-of k ≤ 22) (lit≤ tt) (lit≤ tt) (lit≤ tt) (lit≤ tt) (lit≤ tt) (lit≤ tt)
+
 -- a field of a body ends within it
 pub field-within : (b : Body) (f : Field) → offset-in b f + width-in b f ≤ bytes-of b
 field-within [] f = omega arith

@@ -11,6 +11,7 @@ use lib.Seq.{length-take-le}
 use borrow.Author.Tests.{leb-true, le-leb, lt-leb}
 use Rattle.model.specs.Layouts.{Field, kind-of, mapping-kind, length-of}
 use Rattle.model.specs.Mappings.{mapping, fields-in-range, starts-record, record-length, reading}
+use Rattle.model.specs.declared.Mapping.{Mapping}
 use Rattle.model.specs.declared.Reading.the-variants.{Record, Nothing}
 use Rattle.laws.specs.Lists.{Agree, agree-append, agree-take}
 use Rattle.laws.specs.Layouts.{kind-agree, field-agree, length-of-positive}
@@ -127,6 +128,26 @@ reading-nothing r none = rw (starts-record-length-zero r none)
 pub reading-record : (r : List ℕ) → 0 < record-length r → reading r ≡ Record (mapping r) (record-length r)
 unfolding reading record-length
 reading-record r some = rw (starts-record-length r some)
+
+-- and what its answer says of the bytes
+pub starts-reading-record : (r : List ℕ) (m : Mapping) (n : ℕ) → reading r ≡ Record m n
+    → (starts-record r ≡ true) × ((m ≡ mapping r) × (n ≡ length-of (kind-of r)))
+unfolding reading
+starts-reading-record r m n h = go (starts-record r) refl h
+  where
+    go : (b : Bool) → starts-record r ≡ b → cond b (Record (mapping r) (length-of (kind-of r))) Nothing ≡ Record m n
+        → (starts-record r ≡ true) × ((m ≡ mapping r) × (n ≡ length-of (kind-of r)))
+    go true e k = (e, (cc, cc))
+    go false e k = absurd (let z : _≡_ {A = ℕ} 0 1 = cc in omega arith)
+
+pub starts-reading-nothing : (r : List ℕ) → reading r ≡ Nothing → starts-record r ≡ false
+unfolding reading
+starts-reading-nothing r h = go (starts-record r) refl h
+  where
+    go : (b : Bool) → starts-record r ≡ b → cond b (Record (mapping r) (length-of (kind-of r))) Nothing ≡ Nothing
+        → starts-record r ≡ false
+    go true e k = absurd (let z : _≡_ {A = ℕ} 0 1 = cc in omega arith)
+    go false e k = e
 
 -- bytes after a record do not matter for its length
 pub record-length-agree : (r t : List ℕ) → Agree (length-of (kind-of t)) r t → length-of (kind-of t) ≤ length r

@@ -183,6 +183,13 @@ pub joined-whole : {rs : List (List ℕ)} → Every Valid rs → whole (joined r
 unfolding whole
 joined-whole {rs} v = rw (records-joined v) (eq-eqb (length (joined rs)) (length (joined rs)) refl)
 
+-- an exactly valid record is a whole table
+pub records-one : (r : List ℕ) → Valid r → records r ≡ r ∷ []
+records-one r v = rw joined-one at (records-joined (more v none))
+
+pub whole-one : (r : List ℕ) → Valid r → whole r ≡ true
+whole-one r v = rw joined-one at (joined-whole (more v none))
+
 -- the rest of a table from a position on, as Rattle hands over `&t[at..]`
 pub rest-of-drop : (at : ℕ) (t : List ℕ) → take (length t - at) (drop at t) ≡ drop at t
 rest-of-drop at t = take-all (length t - at) (drop at t) (omega (arith, length-drop at t))

@@ -17,8 +17,10 @@ use Rattle.model.specs.Lookups.{lookup-answer, lookup, lookup-start}
 use Rattle.skuldrefn.specs.declared.FlatContext.{FlatContext}
 use Rattle.skuldrefn.specs.declared.FlatStep.{FlatStep}
 use Rattle.skuldrefn.specs.declared.FlatPart.{FlatPart}
+use Rattle.skuldrefn.specs.declared.FlatReason.{FlatReason}
 use Rattle.skuldrefn.specs.declared.FlatReplayed.{FlatReplayed}
 use Rattle.model.specs.Tables.{limit}
+use Rattle.reasons.specs.Reasons.{explanation, reason-number, reason-answer}
 use Rattle.replays.specs.declared.Replayed.{Replayed}
 use Rattle.replays.specs.Replays.{Replays, ByTheBook}
 
@@ -94,6 +96,13 @@ flat-lookup c a t k =
       length = length (lookup (unflatten c) a t k);
     })
     (record { answer = 1; start = 0; length = 0 })
+
+-- a reason: its number and its answer; a refusal with 1 where a number stands for nothing
+unfoldable pub flat-explanation : FlatContext → List ℕ → List ℕ → FlatReason
+flat-explanation c r e =
+    cond (is-known c)
+    (record { reason = reason-number (explanation (unflatten c) r e); answer = reason-answer (explanation (unflatten c) r e) })
+    (record { reason = 1; answer = 1 })
 
 -- the context of a capability and N after a reset
 abbrev pub fresh : ℕ → ℕ → Context

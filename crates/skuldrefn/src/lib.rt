@@ -7,7 +7,7 @@ use model::GuestPlace;
 use model::Place;
 ghost use mathlib.Core.Path.{_≡_};
 ghost use lib.ListN.{length};
-ghost use Rattle.skuldrefn.specs.Flat.{is-known, unflatten, flatten, flat-step, flat-written, flat-lookup, fresh, FlatReplays};
+ghost use Rattle.skuldrefn.specs.Flat.{is-known, unflatten, flatten, flat-step, flat-written, flat-lookup, flat-explanation, fresh, FlatReplays};
 ghost use mathlib.Core.Bool.{cond};
 
 // A context as numbers. place: 0 outside, 1 root, 2 guest; vpid, ept and ep4ta are looked at in a guest
@@ -201,6 +201,33 @@ pub extern "C" fn skuldrefn_lookup_guest_physical(
     ensures { λ r. ⌜ r ≡ flat-lookup context (Address.GuestPhysical address) (now (table .entry)) k ⌝ }
 {
     look_up(context, Address::GuestPhysical(address), table, k)
+}
+
+// Why an event drops a mapping or leaves it: the reason's number, and the answer of a refused step, else 0.
+// 1 refused, 2 no scope, 3 not canonical, 4 wrong kind, 5 wrong VPID, 6 wrong PCID, 7 wrong EP4TA,
+// 8 not covering, 9 spared as global, 10 in scope.
+#[repr(C)]
+pub struct FlatReason {
+    pub reason: u64,
+    pub answer: u64,
+}
+
+// Why the event drops the record in the bytes or leaves it.
+#[no_mangle]
+pub extern "C" fn skuldrefn_explain(context: FlatContext, bytes: &[u8], event: &[u8]) -> FlatReason
+    ensures { λ r. ⌜ r ≡ flat-explanation context (now (bytes .entry)) (now (event .entry)) ⌝ }
+{
+    if !is_known(context) {
+        return FlatReason {
+            reason: 1,
+            answer: 1,
+        };
+    }
+    let r = reasons::explain(context_of(context), bytes, event);
+    FlatReason {
+        reason: reasons::number(r),
+        answer: reasons::answer(r),
+    }
 }
 
 // What a replay leaves: the context, the length of the table in force, whether the first of the two

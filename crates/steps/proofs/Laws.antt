@@ -11,13 +11,12 @@ use lib.Seq.{take-length, take-append-seam, drop-append-seam, drop-drop}
 use Rattle.model.specs.declared.Context.{Context}
 use Rattle.model.specs.declared.Event.{Event}
 use Rattle.model.specs.Layouts.{kind-of, mapping-kind}
-use Rattle.model.specs.declared.EventReading.the-variants.{Read, Invalid}
 use Rattle.model.specs.declared.Step.{Step}
 use Rattle.model.specs.Answers.{created, first, table-grounds, no-room, answer}
 use Rattle.laws.specs.Answers.{first-zero}
 use Rattle.laws.specs.Lists.{every-head, every-tail}
 use Rattle.laws.specs.Steps.{stepped-accepted, stepped-refused}
-use Rattle.model.specs.Events.{event, valid-event, event-reading}
+use Rattle.model.specs.Events.{event}
 use Rattle.model.specs.Mappings.{mapping}
 use Rattle.model.specs.Scopes.{scope, next-context}
 use Rattle.model.specs.Steps.{new-table, dropped-count, stepped, overwritten, written}
@@ -70,23 +69,6 @@ pub overwritten-behind : (xs ys b : List ℕ)
 unfolding overwritten
 overwritten-behind xs ys b =
     rw (take-append-seam xs (drop (length xs) b), drop-append-seam xs (drop (length xs) b), drop-drop (length ys) (length xs) b, append-assoc, length-append)
-
--- what the event reader's answer says of the bytes
-pub reading-read : (e : List ℕ) (x : Event) → event-reading e ≡ Read x → (valid-event e ≡ true) × (x ≡ event e)
-unfolding event-reading
-reading-read e x h = go (valid-event e) refl h
-  where
-    go : (b : Bool) → valid-event e ≡ b → cond b (Read (event e)) Invalid ≡ Read x → (valid-event e ≡ true) × (x ≡ event e)
-    go true v k = (v, cc)
-    go false v k = absurd (let z : _≡_ {A = ℕ} 0 1 = cc in omega arith)
-
-pub reading-invalid : (e : List ℕ) → event-reading e ≡ Invalid → valid-event e ≡ false
-unfolding event-reading
-reading-invalid e h = go (valid-event e) refl h
-  where
-    go : (b : Bool) → valid-event e ≡ b → cond b (Read (event e)) Invalid ≡ Invalid → valid-event e ≡ false
-    go true v k = absurd (let z : _≡_ {A = ℕ} 0 1 = cc in omega arith)
-    go false v k = v
 
 -- a refused and an accepted step, as the definitions have them
 module _ (c : Context) (t e b : List ℕ) where

@@ -7,8 +7,8 @@
 
 pub mod raw;
 
-use model::{Address, Context, Line, Place, Step, TABLE_LIMIT};
-pub use raw::{FlatContext, FlatReplayed, FlatStep, Part};
+use model::{Address, Context, Line, Place, Reason, Step, TABLE_LIMIT};
+pub use raw::{FlatContext, FlatReason, FlatReplayed, FlatStep, Part};
 use std::ops::Range;
 
 /// The bytes of one row of a replay.
@@ -63,6 +63,34 @@ impl FlatContext {
             vpid: self.vpid,
             ept,
         }
+    }
+}
+
+impl From<Reason> for FlatReason {
+    fn from(reason: Reason) -> FlatReason {
+        FlatReason {
+            reason: reason.number(),
+            answer: reason.answer(),
+        }
+    }
+}
+
+impl FlatReason {
+    /// The reason that the numbers stand for; None if they stand for nothing.
+    pub fn reason(&self) -> Option<Reason> {
+        Some(match (self.reason, self.answer) {
+            (1, 1..) => Reason::Refused(self.answer),
+            (2, 0) => Reason::NoScope,
+            (3, 0) => Reason::NotCanonical,
+            (4, 0) => Reason::WrongKind,
+            (5, 0) => Reason::WrongVpid,
+            (6, 0) => Reason::WrongPcid,
+            (7, 0) => Reason::WrongEp4ta,
+            (8, 0) => Reason::NotCovered,
+            (9, 0) => Reason::Spared,
+            (10, 0) => Reason::InScope,
+            _ => return None,
+        })
     }
 }
 
@@ -132,6 +160,33 @@ pub fn lookup(
     let part = lookup_flat(&context.into(), table, address, k);
     let place = part.start..part.start + part.length;
     (part.answer, (part.length > 0).then_some(place))
+}
+
+/// Why an event takes a record or leaves it, on a flat context.
+pub fn explain_flat(context: &FlatContext, record: &[u8], event: &[u8]) -> FlatReason {
+    // SAFETY: each pointer is good for its length during the call, and the
+    // library keeps nothing.
+    unsafe {
+        raw::skuldrefn_explain(
+            *context,
+            record.as_ptr(),
+            record.len(),
+            event.as_ptr(),
+            event.len(),
+        )
+    }
+}
+
+/// Why an event takes a record or leaves it; as [`model::explain()`].
+///
+/// # Panics
+/// If the library hands back a reason that is none.
+pub fn explain(context: &Context, record: &[u8], event: &[u8]) -> Reason {
+    let flat = explain_flat(&context.into(), record, event);
+    match flat.reason() {
+        Some(reason) => reason,
+        None => panic!("the library handed back {flat:?}"),
+    }
 }
 
 /// A whole log from a reset, in lent buffers. It ends early where there is no

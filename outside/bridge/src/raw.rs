@@ -35,6 +35,15 @@ pub struct Part {
     pub length: usize,
 }
 
+/// Why a mapping went or stayed: the reason's number, 1 to 10, and with reason
+/// 1 the step's answer, else 0.
+#[repr(C)]
+#[derive(Clone, Copy, Debug, PartialEq, Eq)]
+pub struct FlatReason {
+    pub reason: u64,
+    pub answer: u64,
+}
+
 /// What a replay reports: the context and the length of the table in force,
 /// 1 if the first buffer holds it, and the number of rows written.
 #[repr(C)]
@@ -72,6 +81,14 @@ extern "C" {
         address: u64,
         k: u64,
     ) -> Part;
+
+    pub fn skuldrefn_explain(
+        context: FlatContext,
+        record: *const u8,
+        record_length: usize,
+        event: *const u8,
+        event_length: usize,
+    ) -> FlatReason;
 
     pub fn skuldrefn_replay(
         capability: u64,

@@ -1,5 +1,6 @@
 //! The header and the example in C, built with `cc` if there is one.
 
+use model::Reason;
 use std::env::temp_dir;
 use std::fs;
 use std::path::{Path, PathBuf};
@@ -11,6 +12,7 @@ const PRINTED: &str = "\
 3 0 0 17
 12345678h: the record just created
 4 0 0 17
+INVVPID: takes the record
 5 0 1 0
 ";
 
@@ -88,4 +90,28 @@ fn the_header_names_every_answer() {
     let limit = format!("#define SKULDREFN_TABLE_LIMIT {}\n", model::TABLE_LIMIT);
     let row = format!("#define SKULDREFN_ROW {}\n", bridge::ROW);
     assert!(header.contains(&limit) && header.contains(&row));
+}
+
+#[test]
+fn the_header_names_every_reason() {
+    let header = fs::read_to_string(folder().join("skuldrefn.h")).expect("the header");
+    for (name, reason) in [
+        ("REFUSED", Reason::Refused(4)),
+        ("NO_SCOPE", Reason::NoScope),
+        ("NOT_CANONICAL", Reason::NotCanonical),
+        ("WRONG_KIND", Reason::WrongKind),
+        ("WRONG_VPID", Reason::WrongVpid),
+        ("WRONG_PCID", Reason::WrongPcid),
+        ("WRONG_EP4TA", Reason::WrongEp4ta),
+        ("NOT_COVERED", Reason::NotCovered),
+        ("SPARED", Reason::Spared),
+        ("IN_SCOPE", Reason::InScope),
+    ] {
+        let line = format!("    SKULDREFN_{name} = {}", reason.number());
+        let found = header.lines().find_map(|own| own.strip_prefix(&line));
+        assert!(
+            found.is_some_and(|rest| rest.starts_with([',', ' '])),
+            "{line}"
+        );
+    }
 }

@@ -1,8 +1,8 @@
 //! The wrapper itself: document 01's example, flat contexts, empty slices
 //! and null.
 
-use bridge::{raw, FlatContext, FlatStep};
-use model::{Context, Place, PROGRAM_CAPABILITY, PROGRAM_WIDTH};
+use bridge::{raw, FlatContext, FlatReason, FlatStep};
+use model::{Context, Place, Reason, PROGRAM_CAPABILITY, PROGRAM_WIDTH};
 use std::ptr::{null, null_mut};
 
 const A: [u8; 17] = [
@@ -79,6 +79,38 @@ fn numbers_that_stand_for_nothing_are_answered_1() {
         let step = bridge::step_flat(&context, &A, &RESET, &mut new);
         assert_eq!(step, refused(1, context));
         assert_eq!(new, [0xA5; 40]);
+        let reason = bridge::explain_flat(&context, &A, &RESET);
+        assert_eq!((reason.reason, reason.answer), (1, 1));
+    }
+}
+
+#[test]
+fn reasons() {
+    let explain = |event: &[u8]| bridge::explain(&guest(), &A, event);
+    assert_eq!(explain(&RESET), Reason::InScope);
+    assert_eq!(explain(&VMXON), Reason::Refused(6));
+    assert_eq!(explain(&A), Reason::NoScope);
+    let invlpg = |address: u64| [&[18], &address.to_le_bytes()[..]].concat();
+    assert_eq!(explain(&invlpg(0x1234_5678)), Reason::InScope);
+    assert_eq!(explain(&invlpg(0x1234_6000)), Reason::NotCovered);
+    assert_eq!(explain(&invlpg(1 << 47)), Reason::NotCanonical);
+    let elsewhere = bridge::explain(&Context::program(), &A, &invlpg(0x1234_5678));
+    assert_eq!(elsewhere, Reason::WrongVpid);
+}
+
+#[test]
+fn reasons_there_and_back() {
+    for number in 0..20 {
+        for answer in 0..20 {
+            let flat = FlatReason {
+                reason: number,
+                answer,
+            };
+            match flat.reason() {
+                Some(reason) => assert_eq!(FlatReason::from(reason), flat),
+                None => assert!(!(1..=10).contains(&number) || (number == 1) == (answer == 0)),
+            }
+        }
     }
 }
 
@@ -94,6 +126,10 @@ fn empty_slices() {
     assert_eq!(step, refused(4, start()));
     let step = bridge::step_flat(&start(), &A, &VMXON, &mut []);
     assert_eq!(step, refused(12, start()));
+    let explain = |record, event| bridge::explain(&Context::program(), record, event);
+    assert_eq!(explain(&[], &RESET), Reason::Refused(3));
+    assert_eq!(explain(&A, &[]), Reason::Refused(4));
+    assert_eq!(explain(&[], &[]), Reason::Refused(3));
 }
 
 #[test]
@@ -114,9 +150,22 @@ fn null_with_length_0() {
 }
 
 #[test]
-fn null_with_length_0_in_lookups_and_replays() {
+fn null_with_length_0_elsewhere() {
     // SAFETY: as above.
     unsafe {
+        for (reason, answer) in [
+            (
+                raw::skuldrefn_explain(start(), null(), 0, RESET.as_ptr(), 1),
+                3,
+            ),
+            (
+                raw::skuldrefn_explain(start(), A.as_ptr(), 17, null(), 0),
+                4,
+            ),
+            (raw::skuldrefn_explain(start(), null(), 0, null(), 0), 3),
+        ] {
+            assert_eq!((reason.reason, reason.answer), (1, answer));
+        }
         for part in [
             raw::skuldrefn_lookup_linear(start(), null(), 0, 0, 0),
             raw::skuldrefn_lookup_guest_physical(start(), null(), 0, 0, 0),

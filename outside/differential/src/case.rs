@@ -1,5 +1,6 @@
 //! Cases: what is compared, as text that can be replayed.
 
+use crate::explain::ExplainCase;
 use crate::lookup::LookupCase;
 use crate::replay::ReplayCase;
 use crate::run::RunCase;
@@ -13,6 +14,7 @@ use std::time::{Duration, Instant};
 pub enum Case {
     Step(StepCase),
     Lookup(LookupCase),
+    Explain(ExplainCase),
     Run(RunCase),
     Replay(ReplayCase),
 }
@@ -30,6 +32,7 @@ impl Case {
         match self {
             Case::Step(case) => case.check(tally),
             Case::Lookup(case) => case.check(tally),
+            Case::Explain(case) => case.check(tally),
             Case::Run(case) => case.check(tally),
             Case::Replay(case) => case.check(tally),
         }
@@ -51,6 +54,7 @@ impl Case {
         match self {
             Case::Step(case) => case.smaller().into_iter().map(Case::Step).collect(),
             Case::Lookup(case) => case.smaller().into_iter().map(Case::Lookup).collect(),
+            Case::Explain(case) => case.smaller().into_iter().map(Case::Explain).collect(),
             Case::Run(case) => case.smaller().into_iter().map(Case::Run).collect(),
             Case::Replay(case) => case.smaller().into_iter().map(Case::Replay).collect(),
         }
@@ -62,6 +66,7 @@ impl fmt::Display for Case {
         match self {
             Case::Step(case) => case.fmt(f),
             Case::Lookup(case) => case.fmt(f),
+            Case::Explain(case) => case.fmt(f),
             Case::Run(case) => case.fmt(f),
             Case::Replay(case) => case.fmt(f),
         }

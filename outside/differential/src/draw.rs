@@ -1,6 +1,7 @@
 //! Random cases.
 
 use crate::buffer::Buffer;
+use crate::explain::ExplainCase;
 use crate::lookup::LookupCase;
 use crate::replay::ReplayCase;
 use crate::run::{Moment, RunCase};
@@ -84,6 +85,16 @@ pub fn lookup(rng: &mut Rng) -> LookupCase {
         context: any_flat(rng, &query.context),
         table: query.table,
         address: query.address,
+    }
+}
+
+/// An explanation, aimed at any reason.
+pub fn explain(rng: &mut Rng) -> ExplainCase {
+    let case = generate::explain(rng);
+    ExplainCase {
+        context: any_flat(rng, &case.context),
+        record: case.record,
+        event: case.event,
     }
 }
 

@@ -1,7 +1,7 @@
 //! What the model says, in the library's form.
 
-use bridge::{FlatContext, FlatReplayed, FlatStep, Part, ROW};
-use model::{Address, Context};
+use bridge::{FlatContext, FlatReason, FlatReplayed, FlatStep, Part, ROW};
+use model::{Address, Context, Reason};
 use std::mem::swap;
 use std::ops::Range;
 
@@ -49,6 +49,15 @@ pub fn part(answer: u64, usable: &[Range<usize>], k: u64) -> Part {
         start,
         length,
     }
+}
+
+/// A reason. A place or EPT number that stands for nothing is refused with 1.
+pub fn explain(context: &FlatContext, record: &[u8], event: &[u8]) -> FlatReason {
+    let reason = match context.context() {
+        None => Reason::Refused(1),
+        Some(known) => model::explain(&known, record, event),
+    };
+    FlatReason::from(reason)
 }
 
 /// A whole log: the model's steps, through the two buffers in turn, as long

@@ -1,6 +1,7 @@
 //! Cases near the bounds, all of them for one context and table.
 
 use crate::draw::{buffer, flat, ODD_NUMBERS};
+use crate::explain::ExplainCase;
 use crate::lookup::LookupCase;
 use crate::replay::ReplayCase;
 use crate::step::StepCase;
@@ -52,25 +53,30 @@ pub fn near_contexts(rng: &mut Rng) -> Vec<StepCase> {
     let context = generate::context(rng);
     let count = rng.below(6);
     let table = generate::table(rng, &context, count);
-    let near = generate::near_contexts(&context);
-    let mut contexts: Vec<FlatContext> = near.iter().map(|near| flat(rng, near)).collect();
-    for place in 0..3 {
-        for ept in [0, 1].into_iter().chain(ODD_NUMBERS) {
-            contexts.push(numbered(&context, place, ept));
-        }
-    }
-    for place in ODD_NUMBERS {
-        contexts.push(numbered(&context, place, 0));
-        contexts.push(numbered(&context, place, 1));
-    }
     let mut cases = Vec::new();
-    for near in contexts {
+    for near in contexts_near(rng, &context) {
         for kind in KINDS {
             let event = generate::event_of_kind(rng, &context, kind);
             cases.push(step(rng, near, &table, &event));
         }
     }
     cases
+}
+
+/// Those contexts.
+fn contexts_near(rng: &mut Rng, context: &Context) -> Vec<FlatContext> {
+    let near = generate::near_contexts(context);
+    let mut contexts: Vec<FlatContext> = near.iter().map(|near| flat(rng, near)).collect();
+    for place in 0..3 {
+        for ept in [0, 1].into_iter().chain(ODD_NUMBERS) {
+            contexts.push(numbered(context, place, ept));
+        }
+    }
+    for place in ODD_NUMBERS {
+        contexts.push(numbered(context, place, 0));
+        contexts.push(numbered(context, place, 1));
+    }
+    contexts
 }
 
 fn numbered(context: &Context, place: u64, ept: u64) -> FlatContext {
@@ -177,12 +183,17 @@ fn canonical(address: u64) -> u64 {
 
 /// Events with an address, at the ends of each record.
 pub fn edge_events(rng: &mut Rng) -> Vec<StepCase> {
+    edge_events_of(rng, 6)
+}
+
+/// The same for a table of so many records.
+fn edge_events_of(rng: &mut Rng, count: usize) -> Vec<StepCase> {
     let context = Context {
         cpl: 0,
         capability: PROGRAM_CAPABILITY,
         ..generate::context(rng)
     };
-    let table = generate::table(rng, &context, 6);
+    let table = generate::table(rng, &context, count);
     let records = model::mapping::records(&table).unwrap_or_default();
     let vpids: Vec<u64> = records.iter().filter_map(|(_, m)| m.vpid).collect();
     let mut cases = Vec::new();
@@ -205,6 +216,37 @@ pub fn edge_events(rng: &mut Rng) -> Vec<StepCase> {
         cases.push(step(rng, context, &table, &violation));
     }
     cases
+}
+
+/// Every context, record and event one field away from those of one
+/// explanation.
+pub fn near_explains(rng: &mut Rng) -> Vec<ExplainCase> {
+    let near = generate::explain(rng);
+    let case = ExplainCase {
+        context: flat(rng, &near.context),
+        record: near.record,
+        event: near.event,
+    };
+    let mut cases = Vec::new();
+    for context in contexts_near(rng, &near.context) {
+        let case = case.clone();
+        cases.push(ExplainCase { context, ..case });
+    }
+    for record in generate::near_events(&case.record) {
+        let case = case.clone();
+        cases.push(ExplainCase { record, ..case });
+    }
+    for event in generate::near_events(&case.event) {
+        let case = case.clone();
+        cases.push(ExplainCase { event, ..case });
+    }
+    cases
+}
+
+/// One record, and events with an address at its ends.
+pub fn edge_explains(rng: &mut Rng) -> Vec<ExplainCase> {
+    let steps = edge_events_of(rng, 1);
+    steps.into_iter().map(ExplainCase::from).collect()
 }
 
 /// Lookups of both sorts at the ends of each record and of all addresses.

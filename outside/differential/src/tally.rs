@@ -15,6 +15,10 @@ pub struct Tally {
     pub lookups: [u64; 4],
     /// Lookups that found a record.
     pub found: u64,
+    /// Explanations by their reason, from 1.
+    pub reasons: [u64; 11],
+    /// Explanations by the step's answer.
+    pub refusals: [u64; 13],
     /// Accepted events by their kind.
     pub accepted: [u64; 26],
     /// Accepted events that dropped something.
@@ -42,7 +46,8 @@ impl Tally {
     pub fn calls(&self) -> u64 {
         let all = [&self.steps, &self.run_steps, &self.rows];
         let lookups: u64 = self.lookups.iter().sum();
-        lookups + all.iter().flat_map(|counts| counts.iter()).sum::<u64>()
+        let reasons: u64 = self.reasons.iter().sum();
+        lookups + reasons + all.iter().flat_map(|counts| counts.iter()).sum::<u64>()
     }
 
     /// How often an answer was given by a step, alone or in a run.
@@ -55,26 +60,26 @@ impl fmt::Display for Tally {
     fn fmt(&self, f: &mut fmt::Formatter) -> fmt::Result {
         writeln!(
             f,
-            "{:<8}{:>12}{:>12}{:>12}{:>12}",
-            "answer", "steps", "in runs", "in replays", "lookups"
+            "{:<8}{:>12}{:>12}{:>12}{:>12}{:>12}",
+            "answer", "steps", "in runs", "in replays", "in reasons", "lookups"
         )?;
         for answer in 0..13 {
             write!(
                 f,
-                "{:<8}{:>12}{:>12}{:>12}",
-                answer, self.steps[answer], self.run_steps[answer], self.rows[answer]
+                "{:<8}{:>12}{:>12}{:>12}{:>12}",
+                answer,
+                self.steps[answer],
+                self.run_steps[answer],
+                self.rows[answer],
+                self.refusals[answer]
             )?;
             match self.lookups.get(answer) {
                 Some(count) => writeln!(f, "{count:>12}")?,
                 None => writeln!(f)?,
             }
         }
-        let kinds = self.accepted.iter().enumerate();
-        let kinds: Vec<String> = kinds
-            .filter(|(_, count)| **count > 0)
-            .map(|(kind, count)| format!("{kind}: {count}"))
-            .collect();
-        writeln!(f, "accepted by kind: {}", kinds.join(", "))?;
+        writeln!(f, "accepted by kind: {}", numbered(&self.accepted))?;
+        writeln!(f, "reasons: {}", numbered(&self.reasons))?;
         writeln!(
             f,
             "{} events dropped {} records; {} lookups found one; {} runs, {} replays",
@@ -82,4 +87,14 @@ impl fmt::Display for Tally {
         )?;
         write!(f, "{} answers compared", self.calls())
     }
+}
+
+/// The counts that are not 0, each with its number.
+fn numbered(counts: &[u64]) -> String {
+    let numbered = counts.iter().enumerate();
+    let words: Vec<String> = numbered
+        .filter(|(_, count)| **count > 0)
+        .map(|(number, count)| format!("{number}: {count}"))
+        .collect();
+    words.join(", ")
 }

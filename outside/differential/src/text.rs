@@ -4,6 +4,7 @@
 
 use crate::buffer::Buffer;
 use crate::case::Case;
+use crate::explain::ExplainCase;
 use crate::lookup::LookupCase;
 use crate::replay::ReplayCase;
 use crate::run::{Moment, RunCase};
@@ -32,6 +33,7 @@ pub fn parse(text: &str) -> Result<Case, String> {
     match lines.take("case")? {
         "step" => lines.step().map(Case::Step),
         "lookup" => lines.lookup().map(Case::Lookup),
+        "explain" => lines.explain().map(Case::Explain),
         "run" => lines.run().map(Case::Run),
         "replay" => lines.replay().map(Case::Replay),
         other => Err(format!("no case '{other}'")),
@@ -151,6 +153,14 @@ impl<'a> Lines<'a> {
             address: self
                 .address()?
                 .ok_or("no line 'linear' or 'guest-physical'")?,
+        })
+    }
+
+    fn explain(&mut self) -> Result<ExplainCase, String> {
+        Ok(ExplainCase {
+            context: self.context()?,
+            record: self.bytes("record")?,
+            event: self.bytes("event")?,
         })
     }
 

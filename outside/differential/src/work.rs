@@ -47,6 +47,20 @@ pub fn lookups(rng: &mut Rng, tally: &mut Tally) -> Result<(), Failure> {
     all(sweep::near_lookups(rng), Case::Lookup, tally)
 }
 
+/// Explanations, random and at the bounds.
+pub fn explains(rng: &mut Rng, tally: &mut Tally) -> Result<(), Failure> {
+    for _ in 0..800 {
+        Case::Explain(draw::explain(rng)).compare(tally)?;
+    }
+    for _ in 0..2 {
+        all(sweep::near_explains(rng), Case::Explain, tally)?;
+    }
+    for _ in 0..8 {
+        all(sweep::edge_explains(rng), Case::Explain, tally)?;
+    }
+    Ok(())
+}
+
 /// A run of some hundreds of events.
 pub fn runs(rng: &mut Rng, tally: &mut Tally) -> Result<(), Failure> {
     let count = 100 + rng.below(400);
@@ -71,8 +85,8 @@ pub fn filling(rng: &mut Rng, tally: &mut Tally) -> Result<(), Failure> {
 }
 
 /// The work of one round.
-pub const ROUND: [Work; 8] = [
-    steps, near_steps, lookups, steps, runs, replays, steps, lookups,
+pub const ROUND: [Work; 9] = [
+    steps, near_steps, lookups, steps, runs, replays, steps, lookups, explains,
 ];
 
 /// Once in so many rounds a table is filled.

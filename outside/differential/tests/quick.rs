@@ -1,5 +1,6 @@
 //! A quick set of comparisons from fixed seeds. A failure prints the case.
 
+use differential::explain::ExplainCase;
 use differential::work::{self, Work};
 use differential::{draw, sweep, Case, Failure, Tally};
 use generate::Rng;
@@ -103,6 +104,29 @@ fn lookups_for_all_k() {
     let tally = compare(100, work::lookups);
     assert!(tally.lookups.iter().all(|count| *count > 300));
     assert!(tally.found > 5_000);
+}
+
+#[test]
+fn explanations_of_every_reason() {
+    let tally = compare(100, work::explains);
+    assert!(tally.reasons[1..].iter().all(|count| *count > 500));
+    for (answer, count) in tally.refusals.iter().enumerate() {
+        if answer == 2 || answer == 12 {
+            assert_eq!(*count, 0);
+        } else {
+            assert!(*count > 200);
+        }
+    }
+}
+
+/// Any table and event of a step, one record or many, as an explanation.
+#[test]
+fn explanations_of_whole_tables() {
+    let mut rng = Rng::new(SEED);
+    for _ in 0..20_000 {
+        let case = ExplainCase::from(draw::step(&mut rng));
+        passed(Case::Explain(case).compare(&mut Tally::default()));
+    }
 }
 
 #[test]

@@ -114,7 +114,8 @@ fn aim_at_some_record(rng: &mut Rng, table: &[u8], event: &mut [u8]) {
     }
 }
 
-fn spoiled(rng: &mut Rng, event: &[u8]) -> Vec<u8> {
+/// An event damaged, or with one field changed.
+pub fn spoiled(rng: &mut Rng, event: &[u8]) -> Vec<u8> {
     let mut bytes = event.to_vec();
     if bytes.len() > 1 && rng.one_in(2) {
         bytes = near(rng, &bytes);
@@ -154,7 +155,7 @@ fn room_length(rng: &mut Rng, room: Room, table: usize, event: usize) -> usize {
 }
 
 /// A context and a valid event on which the answer aimed at is likely.
-fn aimed(rng: &mut Rng, aim: usize) -> (Context, Vec<u8>) {
+pub fn aimed(rng: &mut Rng, aim: usize) -> (Context, Vec<u8>) {
     match aim {
         5 => undefined(rng),
         6 => {
@@ -226,7 +227,7 @@ fn bad_entry(rng: &mut Rng, context: &Context) -> Vec<u8> {
 }
 
 /// An event that has a scope, in a context in which it should be accepted.
-fn dropping(rng: &mut Rng) -> (Context, Vec<u8>) {
+pub fn dropping(rng: &mut Rng) -> (Context, Vec<u8>) {
     let kind = rng.pick(&[16, 16, 17, 17, 18, 18, 19, 19, 20, 21, 25]);
     let mut context = match kind {
         16 | 17 | 20 => root(rng),

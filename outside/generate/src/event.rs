@@ -240,7 +240,8 @@ fn from_guest(rng: &mut Rng, context: &Context, ept: bool) -> (Vec<u8>, Context)
     (bytes, after)
 }
 
-fn good_invvpid(rng: &mut Rng) -> Vec<u8> {
+/// An INVVPID that is accepted in root with the program's capability.
+pub fn good_invvpid(rng: &mut Rng) -> Vec<u8> {
     let mut bytes = vec![16];
     put(&mut bytes, rng.pick(&[0, 0, 0, 0, 1, 2, 3, 3]), 8);
     put(&mut bytes, pool::vpid_not_zero(rng), 8);

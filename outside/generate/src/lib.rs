@@ -9,7 +9,8 @@
 //! constants and the plain types of a context and an address, and no rule.
 //!
 //! * [`Rng`]: the generator of numbers.
-//! * [`case`], [`query`]: inputs of one step and of one lookup.
+//! * [`case`], [`query`], [`explain`]: inputs of one step, of one lookup and of
+//!   one explanation.
 //! * [`events`], [`log`], [`filling_log`]: whole runs and logs.
 //! * [`context`], [`table`], [`event`], [`address`] and so on: the parts.
 //! * [`near_contexts`], [`near_events`]: every input that differs from a given
@@ -18,6 +19,7 @@
 mod case;
 mod context;
 mod event;
+mod explain;
 mod layout;
 mod pool;
 mod record;
@@ -27,6 +29,7 @@ mod run;
 pub use case::{case, query, Case, Query};
 pub use context::{any_context, capability, context, near_context, near_contexts};
 pub use event::{any_event, damage, entry, eptp, event, event_of_kind, fitting, invept, invvpid};
+pub use explain::{explain, Explain};
 pub use layout::{event_length, near, near_events, KINDS};
 pub use pool::address;
 pub use record::{any_table, full_table, record, record_of_kind, removal, table};

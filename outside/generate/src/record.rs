@@ -76,6 +76,24 @@ pub fn tagged(rng: &mut Rng, kind: u8, tags: &Tags) -> Vec<u8> {
     bytes
 }
 
+/// Where a record of this kind has its span byte. The page follows it.
+fn span_at(kind: u8) -> usize {
+    if kind == 4 || kind == 6 {
+        5
+    } else {
+        6
+    }
+}
+
+/// Gives a valid record the page, cut to 36 bits and to a multiple of the
+/// record's span, so that the record covers it.
+pub fn set_page(record: &mut [u8], page: u64) {
+    let at = span_at(record[0]);
+    let low = 9 * record[at];
+    let page = (page & ((1 << 36) - 1)) >> low << low;
+    record[at + 1..at + 6].copy_from_slice(&page.to_le_bytes()[..5]);
+}
+
 /// Appends a number in so many bytes, little-endian.
 pub fn put(bytes: &mut Vec<u8>, number: u64, count: usize) {
     bytes.extend_from_slice(&number.to_le_bytes()[..count]);
@@ -186,7 +204,7 @@ pub fn page_of_some(rng: &mut Rng, table: &[u8]) -> Option<u64> {
     let starts = boundaries(table);
     let start = starts[rng.below(starts.len())];
     let kind = *table.get(start)?;
-    let at = start + if kind == 4 || kind == 6 { 6 } else { 7 };
+    let at = start + span_at(kind) + 1;
     let mut page = [0; 8];
     page[..5].copy_from_slice(table.get(at..at + 5)?);
     Some(u64::from_le_bytes(page))

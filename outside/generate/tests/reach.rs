@@ -1,6 +1,6 @@
 //! The generator reaches every answer often, and gives the same each time.
 
-use generate::{case, event_length, events, filling_log, log, query, Rng, KINDS};
+use generate::{case, event_length, events, explain, filling_log, log, query, Rng, KINDS};
 use model::{lookup, step, LOG_LIMIT};
 
 const SEED: u64 = 7;
@@ -47,11 +47,69 @@ fn lookups_find() {
     assert!(found >= 1_000);
 }
 
+/// The reasons that document 01's tests leave possible for an event of a kind.
+fn possible(kind: u8) -> &'static [u64] {
+    match kind {
+        16 => &[1, 4, 5, 8, 9, 10],
+        17 => &[1, 4, 7, 10],
+        18 => &[1, 3, 4, 5, 6, 8, 10],
+        19 => &[1, 4, 5, 6, 7, 8, 10],
+        20 | 21 => &[1, 2, 4, 5, 10],
+        25 => &[1, 10],
+        _ => &[1, 2],
+    }
+}
+
+#[test]
+fn every_reason_is_reached() {
+    println!("seed {SEED}");
+    let mut rng = Rng::new(SEED);
+    let mut reached = [0; 11];
+    let mut answers = [0; 13];
+    let mut by_kind = [[0; 11]; 26];
+    for _ in 0..50_000 {
+        let case = explain(&mut rng);
+        let reason = model::explain(&case.context, &case.record, &case.event);
+        reached[reason.number() as usize] += 1;
+        answers[reason.answer() as usize] += 1;
+        if let Some(counts) = case
+            .event
+            .first()
+            .and_then(|kind| by_kind.get_mut(usize::from(*kind)))
+        {
+            counts[reason.number() as usize] += 1;
+        }
+    }
+    println!("reasons reached: {reached:?}");
+    println!("answers reached: {answers:?}");
+    assert!(reached[1..].iter().all(|count| *count >= 400));
+    for (answer, count) in answers.iter().enumerate() {
+        if answer == 2 || answer == 12 {
+            assert_eq!(*count, 0, "answer {answer}");
+        } else {
+            assert!(*count >= 100, "answer {answer}");
+        }
+    }
+    for kind in KINDS {
+        for reason in 1..=10 {
+            let count = by_kind[usize::from(kind)][reason as usize];
+            let right = if possible(kind).contains(&reason) {
+                count >= 10
+            } else {
+                count == 0
+            };
+            assert!(right, "kind {kind}, reason {reason}: {count}");
+        }
+    }
+}
+
 #[test]
 fn the_same_seed_gives_the_same() {
     for seed in 0..20 {
         let (mut one, mut two) = (Rng::new(seed), Rng::new(seed));
         assert_eq!(format!("{}", case(&mut one)), format!("{}", case(&mut two)));
+        let (ours, theirs) = (explain(&mut one), explain(&mut two));
+        assert_eq!(format!("{ours}"), format!("{theirs}"));
         assert_eq!(events(&mut one, 50), events(&mut two, 50));
         assert_eq!(log(&mut one, 500), log(&mut two, 500));
     }

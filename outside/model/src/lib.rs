@@ -1,14 +1,16 @@
-//! The independent model: document 01 in plain Rust.
+//! The independent model: document 01 in plain Rust, and document 02's asks.
 //!
-//! Written from the papers (documents/01-scope.md and its sources) and from
-//! nothing else, so that it can be compared with the proved model. It is
-//! meant to be read beside document 01: each file is one of its sections.
+//! Written from the papers (documents/01-scope.md and its sources, and
+//! 02-change-requests.md) and from nothing else, so that it can be compared
+//! with the proved model. It is meant to be read beside document 01: each
+//! file is one of its sections.
 //!
 //! * [`context`]: the context and its ranges.
 //! * [`mapping`]: mapping records and tables.
 //! * [`event`]: events, and the context after one.
 //! * [`judge`]: the numbered answers.
 //! * [`scope`]: the required scopes.
+//! * [`reason`]: why a mapping went or stayed (Ask 1).
 //! * [`step()`], [`lookup()`], [`replay()`]: what the model does.
 //! * [`book`]: a whole run judged from its events alone.
 //! * [`tuned`]: the same step, written for speed.
@@ -20,6 +22,7 @@ pub mod event;
 pub mod judge;
 pub mod lookup;
 pub mod mapping;
+pub mod reason;
 pub mod replay;
 pub mod scope;
 pub mod step;
@@ -27,6 +30,7 @@ pub mod tuned;
 
 pub use context::{Context, Place};
 pub use lookup::{lookup, usable, Address};
+pub use reason::{explain, Reason};
 pub use replay::{print, replay, Line};
 pub use step::{step, Step};
 

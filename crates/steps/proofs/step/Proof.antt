@@ -7,7 +7,8 @@ use lib.ListN.{length}
 use Rattle.model.specs.Events.{event}
 use Rattle.model.specs.Answers.{event-answer}
 use Rattle.laws.specs.Answers.{answer-of-table, answer-of-invalid, answer-of-event, answer-of-room}
-use Rattle.steps.proofs.Laws.{reading-read, reading-invalid, step-refused, step-accepted, room-left}
+use Rattle.laws.specs.Events.{valid-event-read, valid-event-invalid}
+use Rattle.steps.proofs.Laws.{step-refused, step-accepted, room-left}
 use Rattle.steps.proofs.step.Statement.{statement}
 use Rattle.steps.proofs.step.Tie as tie
 
@@ -46,13 +47,13 @@ returns-2 c =
     let e = now (a .event) in
     let b = now (a .new) in
     let none = sym (c .before .before .before .before .before .before .judge .ensures .answer) ∙ c .before .before .before .before .if1 .left in
-    let invalid = reading-invalid e (sym (c .before .before .before .read-event .ensures) ∙ c .before .enum-told .given .1) in
+    let invalid = valid-event-invalid e (sym (c .before .before .before .read-event .ensures) ∙ c .before .enum-told .given .1) in
     step-refused (a .c) t e b 4 (answer-of-invalid (a .c) t e (length b) none invalid) (λ z. omega arith) _ (c .refused2 .ensures)
 
 -- past the table's answers and a valid event
 valid : (c : tie.After-known-told)
     → (Rattle.model.specs.Events.valid-event (now (c .before .before .before .before .before .before .before .before .before .before .args .event)) ≡ mathlib.Core.Bool.true) × (c .before .e .given .0 .0 ≡ event (now (c .before .before .before .before .before .before .before .before .before .before .args .event)))
-valid c = reading-read _ _ (sym (c .before .before .before .read-event .ensures) ∙ c .before .e .given .1)
+valid c = valid-event-read _ _ (sym (c .before .before .before .read-event .ensures) ∙ c .before .e .given .1)
 
 answer-to-event-requires : tie.Need-answer-to-event-requires
 answer-to-event-requires c κs = search needs

@@ -1,0 +1,3 @@
+pub mod Reasons
+pub mod Answers
+pub mod Scopes

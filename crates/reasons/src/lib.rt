@@ -1,0 +1,321 @@
+// Why an event drops a mapping or leaves it: document 02, Ask 1.
+use model::Context;
+use model::Event;
+use model::EventReading;
+use model::Mapping;
+use model::Operands;
+use model::Reading;
+use model::Violation;
+ghost use mathlib.Core.Bool.{cond};
+ghost use mathlib.Core.Path.{_≡_};
+ghost use Rattle.model.specs.Mappings.{linear, guest-physical, combined, global-translation};
+ghost use Rattle.reasons.specs.Reasons.{none, unscoped, invvpid-misses, invept-misses, invlpg-misses, violation-misses, transition-misses, misses, first-reason, explanation, reason-number, reason-answer};
+
+// The reasons, in the order in which they are tried. A refused step carries its answer.
+pub enum Reason {
+    Refused(u64),
+    NoScope,
+    NotCanonical,
+    WrongKind,
+    WrongVpid,
+    WrongPcid,
+    WrongEp4ta,
+    NotCovering,
+    SparedAsGlobal,
+    InScope,
+}
+
+// Whether a mapping misses an event's scope: the event has none, INVLPG's address is not canonical, or the
+// mapping's kind, VPID, PCID, EP4TA, page or global mark is not one that the event takes.
+pub struct Misses {
+    pub scope: bool,
+    pub address: bool,
+    pub kind: bool,
+    pub vpid: bool,
+    pub pcid: bool,
+    pub ep4ta: bool,
+    pub page: bool,
+    pub global: bool,
+}
+
+// Nothing is missed: every mapping is in scope.
+fn no_misses() -> Misses
+    ensures { λ r. ⌜ r ≡ none ⌝ }
+{
+    Misses {
+        scope: false,
+        address: false,
+        kind: false,
+        vpid: false,
+        pcid: false,
+        ep4ta: false,
+        page: false,
+        global: false,
+    }
+}
+
+// The event has no scope.
+fn no_scope() -> Misses
+    ensures { λ r. ⌜ r ≡ unscoped ⌝ }
+{
+    Misses {
+        scope: true,
+        address: false,
+        kind: false,
+        vpid: false,
+        pcid: false,
+        ep4ta: false,
+        page: false,
+        global: false,
+    }
+}
+
+// The kind is that of a linear mapping.
+fn is_linear(kind: u64) -> bool
+    ensures { λ r. ⌜ r ≡ linear kind ⌝ }
+{
+    (kind == 1) | (kind == 4)
+}
+
+// The kind is that of a guest-physical mapping.
+fn is_guest_physical(kind: u64) -> bool
+    ensures { λ r. ⌜ r ≡ guest-physical kind ⌝ }
+{
+    (kind == 2) | (kind == 5)
+}
+
+// The kind is that of a combined mapping.
+fn is_combined(kind: u64) -> bool
+    ensures { λ r. ⌜ r ≡ combined kind ⌝ }
+{
+    (kind == 3) | (kind == 6)
+}
+
+// The mapping is a global translation.
+fn is_global_translation(m: Mapping) -> bool
+    ensures { λ r. ⌜ r ≡ global-translation m ⌝ }
+{
+    ((m.kind == 1) | (m.kind == 3)) & (m.global == 1)
+}
+
+// How a mapping misses an INVVPID.
+fn invvpid_misses(o: Operands, m: Mapping) -> Misses
+    ensures { λ r. ⌜ r ≡ invvpid-misses o m ⌝ }
+{
+    let type_number = o.type_number;
+    let named = o.low % 65536;
+    let kind = !(is_linear(m.kind) | is_combined(m.kind));
+    let global = is_global_translation(m);
+    let covered = addresses::is_covered(m.span, m.page, addresses::page(o.high));
+    Misses {
+        scope: false,
+        address: false,
+        kind,
+        vpid: ((type_number == 2) & (m.vpid == 0)) | (!(type_number == 2) & !(m.vpid == named)),
+        pcid: false,
+        ep4ta: false,
+        page: (type_number == 0) & !covered,
+        global: (type_number == 3) & global,
+    }
+}
+
+// How a mapping misses an INVEPT.
+fn invept_misses(o: Operands, m: Mapping) -> Misses
+    ensures { λ r. ⌜ r ≡ invept-misses o m ⌝ }
+{
+    let named = (o.low >> 12) % 1099511627776;
+    let kind = !(is_guest_physical(m.kind) | is_combined(m.kind));
+    Misses {
+        scope: false,
+        address: false,
+        kind,
+        vpid: false,
+        pcid: false,
+        ep4ta: (o.type_number == 1) & !(m.ep4ta == named),
+        page: false,
+        global: false,
+    }
+}
+
+// How a mapping misses an INVLPG.
+fn invlpg_misses(c: Context, address: u64, m: Mapping) -> Misses
+    ensures { λ r. ⌜ r ≡ invlpg-misses c address m ⌝ }
+{
+    let place = c.place;
+    let vpid = contexts::vpid(place);
+    let canonical = addresses::is_canonical(address);
+    let kind = !(is_linear(m.kind) | is_combined(m.kind));
+    let global = is_global_translation(m);
+    let covered = addresses::is_covered(m.span, m.page, addresses::page(address));
+    Misses {
+        scope: false,
+        address: !canonical,
+        kind,
+        vpid: !(m.vpid == vpid),
+        pcid: !((m.pcid == c.pcid) | global),
+        ep4ta: false,
+        page: !covered,
+        global: false,
+    }
+}
+
+// The first number where the test holds, else the second.
+fn either(test: bool, first: u64, second: u64) -> u64
+    ensures { λ r. ⌜ r ≡ cond test first second ⌝ }
+{
+    if test { first } else { second }
+}
+
+// How a mapping misses an EPT violation. A guest-physical mapping is asked its EP4TA and the
+// guest-physical page, a combined one all its tags and the linear page.
+fn violation_misses(c: Context, v: Violation, m: Mapping) -> Misses
+    ensures { λ r. ⌜ r ≡ violation-misses c v m ⌝ }
+{
+    let place = c.place;
+    let vpid = contexts::vpid(place);
+    let ept = contexts::ept(place);
+    let current = contexts::is_current_ep4ta(ept, m.ep4ta);
+    let guest_physical = is_guest_physical(m.kind);
+    let combined = is_combined(m.kind);
+    let address = either(combined, v.linear, v.physical);
+    let covered = addresses::is_covered(m.span, m.page, addresses::page(address));
+    Misses {
+        scope: false,
+        address: false,
+        kind: !(guest_physical | ((v.flag == 1) & combined)),
+        vpid: combined & !(m.vpid == vpid),
+        pcid: combined & !(m.pcid == c.pcid),
+        ep4ta: !current,
+        page: !covered,
+        global: false,
+    }
+}
+
+// How a mapping misses a VM entry or VM exit of a guest with VPIDs enabled or not.
+fn transition_misses(enabled: bool, m: Mapping) -> Misses
+    ensures { λ r. ⌜ r ≡ transition-misses enabled m ⌝ }
+{
+    let kind = !(is_linear(m.kind) | is_combined(m.kind));
+    Misses {
+        scope: enabled,
+        address: false,
+        kind,
+        vpid: !(m.vpid == 0),
+        pcid: false,
+        ep4ta: false,
+        page: false,
+        global: false,
+    }
+}
+
+// How a mapping misses the event's scope, judged in the context.
+fn event_misses(c: Context, e: Event, m: Mapping) -> Misses
+    ensures { λ r. ⌜ r ≡ misses c e m ⌝ }
+{
+    let place = c.place;
+    let vpid = contexts::vpid(place);
+    match e {
+        Event::Creation(_) => no_scope(),
+        Event::Invvpid(o) => invvpid_misses(o, m),
+        Event::Invept(o) => invept_misses(o, m),
+        Event::Invlpg(address) => invlpg_misses(c, address, m),
+        Event::EptViolation(v) => violation_misses(c, v, m),
+        Event::Entry(n) => transition_misses(n.vpids == 1, m),
+        Event::Exit(_) => transition_misses(!(vpid == 0), m),
+        Event::Vmxon => no_scope(),
+        Event::Vmxoff => no_scope(),
+        Event::NewPcid(_) => no_scope(),
+        Event::Reset => no_misses(),
+    }
+}
+
+// The first reason that holds; the mapping is in scope where none does.
+fn first_reason(m: Misses) -> Reason
+    ensures { λ r. ⌜ r ≡ first-reason m ⌝ }
+{
+    if m.scope {
+        return Reason::NoScope;
+    }
+    if m.address {
+        return Reason::NotCanonical;
+    }
+    if m.kind {
+        return Reason::WrongKind;
+    }
+    if m.vpid {
+        return Reason::WrongVpid;
+    }
+    if m.pcid {
+        return Reason::WrongPcid;
+    }
+    if m.ep4ta {
+        return Reason::WrongEp4ta;
+    }
+    if m.page {
+        return Reason::NotCovering;
+    }
+    if m.global {
+        return Reason::SparedAsGlobal;
+    }
+    Reason::InScope
+}
+
+// Why the event drops the record in the bytes or leaves it, judged in the context. The step's refusal goes
+// first; bytes that are not exactly one valid record are refused with 3.
+pub fn explain(c: Context, bytes: &[u8], event: &[u8]) -> Reason
+    ensures { λ r. ⌜ r ≡ explanation c (now (bytes .entry)) (now (event .entry)) ⌝ }
+{
+    if !contexts::is_in_range(c) {
+        return Reason::Refused(1);
+    }
+    let Reading::Record(m, length) = mappings::read_record(bytes) else {
+        return Reason::Refused(3);
+    };
+    if length != bytes.len() {
+        return Reason::Refused(3);
+    }
+    let EventReading::Read(e) = events::read_event(event) else {
+        return Reason::Refused(4);
+    };
+    let answer = answers::answer_to_event(c, e);
+    if answer != 0 {
+        return Reason::Refused(answer);
+    }
+    first_reason(event_misses(c, e, m))
+}
+
+// The reason's number, from 1 in the order in which they are tried.
+pub fn number(r: Reason) -> u64
+    ensures { λ n. ⌜ n ≡ reason-number r ⌝ }
+{
+    match r {
+        Reason::Refused(_) => 1,
+        Reason::NoScope => 2,
+        Reason::NotCanonical => 3,
+        Reason::WrongKind => 4,
+        Reason::WrongVpid => 5,
+        Reason::WrongPcid => 6,
+        Reason::WrongEp4ta => 7,
+        Reason::NotCovering => 8,
+        Reason::SparedAsGlobal => 9,
+        Reason::InScope => 10,
+    }
+}
+
+// The answer that a refusal carries, and 0 with any other reason.
+pub fn answer(r: Reason) -> u64
+    ensures { λ n. ⌜ n ≡ reason-answer r ⌝ }
+{
+    match r {
+        Reason::Refused(number) => number,
+        Reason::NoScope => 0,
+        Reason::NotCanonical => 0,
+        Reason::WrongKind => 0,
+        Reason::WrongVpid => 0,
+        Reason::WrongPcid => 0,
+        Reason::WrongEp4ta => 0,
+        Reason::NotCovering => 0,
+        Reason::SparedAsGlobal => 0,
+        Reason::InScope => 0,
+    }
+}

@@ -1,0 +1,147 @@
+//! The inputs of one explanation.
+
+use crate::case::{aimed, dropping, spoiled};
+use crate::context::near_context;
+use crate::event::{damage, good_invvpid};
+use crate::layout::near;
+use crate::pool;
+use crate::record::{current, record, set_page, tagged};
+use crate::{hex, Rng};
+use model::{Context, TABLE_LIMIT};
+use std::fmt;
+
+/// The inputs of one explanation.
+#[derive(Clone, Debug)]
+pub struct Explain {
+    pub context: Context,
+    pub record: Vec<u8>,
+    pub event: Vec<u8>,
+}
+
+impl fmt::Display for Explain {
+    fn fmt(&self, f: &mut fmt::Formatter) -> fmt::Result {
+        writeln!(f, "context: {:x?}", self.context)?;
+        writeln!(f, "record ({}): {}", self.record.len(), hex(&self.record))?;
+        write!(f, "event ({}): {}", self.event.len(), hex(&self.event))
+    }
+}
+
+/// Mostly an accepted event, and a record that it drops or that misses its
+/// scope in one field or a few; else any answer, or a bad record.
+pub fn explain(rng: &mut Rng) -> Explain {
+    let (mut context, mut event) = if rng.one_in(6) {
+        let aim = rng.below(18);
+        aimed(rng, aim)
+    } else {
+        accepted(rng)
+    };
+    let mut record = near_scope(rng, &context, &event);
+    match rng.below(20) {
+        0 => context = near_context(rng, &context),
+        1 => event = spoiled(rng, &event),
+        2 | 3 => record = bad_record(rng, &context, record),
+        // INVLPG of an address that is not canonical, though the page stays.
+        4 | 5 if event.len() == 9 => event[8] ^= 0x80,
+        _ => {}
+    }
+    Explain {
+        context,
+        record,
+        event,
+    }
+}
+
+/// A context and an event that should be accepted in it; seldom an entry, an
+/// exit or a reset, which test little, and often INVVPID type 3.
+fn accepted(rng: &mut Rng) -> (Context, Vec<u8>) {
+    let (context, mut event) = dropping(rng);
+    if event[0] >= 20 && !rng.one_in(4) {
+        return accepted(rng);
+    }
+    if event[0] == 16 && rng.one_in(2) {
+        event = good_invvpid(rng);
+        if rng.one_in(3) {
+            event[1] = 3;
+        }
+    }
+    (context, event)
+}
+
+/// A number of so many bytes in an event; 0 if the event is cut.
+fn number(event: &[u8], at: usize, count: usize) -> u64 {
+    let mut word = [0; 8];
+    if let Some(bytes) = event.get(at..at + count) {
+        word[..count].copy_from_slice(bytes);
+    }
+    u64::from_le_bytes(word)
+}
+
+/// A valid record with the tags and the page that the event names, or that
+/// are current, but for some of them.
+fn near_scope(rng: &mut Rng, context: &Context, event: &[u8]) -> Vec<u8> {
+    let kinds: &[u8] = match event.first() {
+        Some(16 | 18 | 20 | 21) => &[1, 3, 4, 6],
+        Some(17 | 19) => &[2, 3, 5, 6],
+        _ => &[1, 2, 3, 4, 5, 6],
+    };
+    let mut kind = rng.pick(kinds);
+    let mut tags = current(context);
+    let mut page = pool::page(rng);
+    match event.first() {
+        Some(16) => {
+            tags.vpid = number(event, 9, 2);
+            page = number(event, 17, 8) >> 12;
+        }
+        Some(17) => tags.ept = Some(number(event, 9, 8) >> 12),
+        Some(18) => page = number(event, 1, 8) >> 12,
+        Some(19) if kind == 2 || kind == 5 => page = number(event, 1, 8) >> 12,
+        Some(19) => page = number(event, 10, 8) >> 12,
+        Some(20 | 21) => tags.vpid = 0,
+        _ => {}
+    }
+    if tags.vpid == 0 && rng.one_in(4) {
+        tags.vpid = pool::vpid(rng);
+    }
+    for _ in 0..rng.pick(&[0, 0, 1, 1, 1, 2, 3]) {
+        // One from the pool, or with one bit changed.
+        let pooled = rng.one_in(2);
+        match rng.below(6) {
+            0 if pooled => tags.vpid = pool::vpid(rng),
+            0 => tags.vpid ^= 1 << rng.below(16),
+            1 if pooled => tags.pcid = pool::pcid(rng),
+            1 => tags.pcid ^= 1 << rng.below(12),
+            2 if pooled => tags.ept = Some(pool::ep4ta(rng)),
+            2 => tags.ept = tags.ept.map(|ep4ta| ep4ta ^ 1 << rng.below(40)),
+            3 if pooled => page = pool::page(rng),
+            3 | 4 => page ^= 1 << rng.below(36),
+            _ => kind = 1 + rng.below(6) as u8,
+        }
+    }
+    let mut record = tagged(rng, kind, &tags);
+    set_page(&mut record, page);
+    if kind == 1 || kind == 3 {
+        // The global mark.
+        record[5] = rng.below(2) as u8;
+    }
+    record
+}
+
+/// Bytes that are not exactly one valid record, or nearly so: cut, damaged,
+/// doubled, two records, none, or more than a table may have.
+fn bad_record(rng: &mut Rng, context: &Context, mut bytes: Vec<u8>) -> Vec<u8> {
+    match rng.below(16) {
+        0..=3 => damage(rng, &mut bytes),
+        4..=7 => bytes = near(rng, &bytes),
+        8 => bytes.clear(),
+        9 => bytes.push(0),
+        10 => bytes.truncate(bytes.len() - 1),
+        11 => bytes.extend_from_within(..),
+        12 | 13 => bytes.extend(record(rng, context)),
+        14 => bytes.extend_from_slice(&rng.number().to_le_bytes()),
+        _ => {
+            let more = rng.below(3);
+            bytes = bytes.repeat(TABLE_LIMIT / bytes.len() + more);
+        }
+    }
+    bytes
+}
