@@ -105,6 +105,8 @@ STEPS = [
     ("mistake 3: EPT violation, global of the current PCID", EPT_GUEST, combined(5, 1, 1, 0, 0x12345), violation(0, 1, 0x12345000), 0, 1, b""),
     ("mistake 4: type 3 takes structure caches", root(), linear_structure(5, 1, 1, 0x12200) + combined_structure(5, 1, 1, 0), invvpid(3, 5, 0), 0, 2, b""),
     ("mistake 4: INVLPG, global of another PCID", EPT_GUEST, combined(5, 2, 1, 0, 0x12345), invlpg(0x12345000), 0, 1, b""),
+    ("Ask 2: INVLPG takes a structure cache at another page", GUEST, linear_structure(5, 1, 1, 0x12400), invlpg(0x12345000), 0, 1, b""),
+    ("Ask 2: type 0 leaves it", root(), linear_structure(5, 1, 1, 0x12400), invvpid(0, 5, 0x12345000), 0, 0, linear_structure(5, 1, 1, 0x12400)),
     ("INVLPG at a non-canonical address", GUEST, A, invlpg(2**47), 0, 0, A),
     ("entry without VPIDs takes VPID 0", root(), linear(0, 9, 1, 0, 0) + A, entry(0, 9, 0, 0, 1, 0), 0, 1, A),
     ("entry with VPIDs takes nothing", root(), linear(0, 9, 1, 0, 0), entry(1, 5, 0, 0, 1, 0), 0, 0, linear(0, 9, 1, 0, 0)),
@@ -175,6 +177,7 @@ REASONS = [
     ("why: A with global 1 under type 3", root(), linear(5, 1, 1, 0, 0x12345), invvpid(3, 5, 0), 9, 0),
     ("why: A under type 3", root(), A, invvpid(3, 5, 0), 10, 0),
     ("why: INVLPG, global of PCID 2", GUEST, linear(5, 2, 1, 0, 0x12345), invlpg(0x12345678), 10, 0),
+    ("why: INVLPG, structure cache at another page", GUEST, linear_structure(5, 1, 1, 0x12400), invlpg(0x12345000), 10, 0),
     ("why: EPT violation, G", EPT_GUEST, G, violation(0x10000, 0, 0), 10, 0),
     ("why: reset", root(), G, bytes([25]), 10, 0),
 ]

@@ -347,13 +347,15 @@ scoped =
     ∷ accepts root (guest-physical-structure 1 0 ++ combined-structure 0 1 1 0) (invept 1 0x123456701E 0) 2 []
     ∷ accepts root (combined 5 1 0 0 0) (invept 1 0x123456801E 0) 0 (combined 5 1 0 0 0)
     -- INVLPG: the current VPID and page; the current PCID or, mistake 4, global; structure caches of
-    -- the current PCID; any EP4TA, EPT on or off; kinds 2 and 5 stay; no ground in the address
+    -- the current PCID at any page (Ask 2), which INVVPID type 0 leaves; any EP4TA, EPT on or off; kinds
+    -- 2 and 5 stay; no ground in the address
     ∷ accepts (ept-guest 5) (combined 5 2 1 0 0x12345) (invlpg 0x12345000) 1 []
     ∷ accepts (ept-guest 5) (combined 5 2 0 0 0x12345) (invlpg 0x12345000) 0 (combined 5 2 0 0 0x12345)
     ∷ accepts (ept-guest 5) A (invlpg 0x12345000) 1 []
     ∷ accepts (guest 5) (combined-structure 5 1 1 0x12200) (invlpg 0x12345000) 1 []
     ∷ accepts (guest 5) (linear-structure 5 2 1 0x12200) (invlpg 0x12345000) 0 (linear-structure 5 2 1 0x12200)
-    ∷ accepts (guest 5) (linear-structure 5 1 1 0x12400) (invlpg 0x12345000) 0 (linear-structure 5 1 1 0x12400)
+    ∷ accepts (guest 5) (linear-structure 5 1 1 0x12400) (invlpg 0x12345000) 1 []
+    ∷ accepts root (linear-structure 5 1 1 0x12400) (invvpid 0 5 0x12345000) 0 (linear-structure 5 1 1 0x12400)
     ∷ accepts (guest 6) A (invlpg 0x12345000) 0 A
     ∷ accepts (guest 5) A (invlpg 0x12346000) 0 A
     ∷ accepts root (guest-physical 0 0x12345) (invlpg 0x12345000) 0 (guest-physical 0 0x12345)

@@ -36,6 +36,10 @@ guest-physical kind = eqb kind 2 || eqb kind 5
 abbrev pub combined : ℕ → Bool
 combined kind = eqb kind 3 || eqb kind 6
 
+-- kinds 4 to 6 are structure caches, the others translations
+abbrev pub structure-cache : ℕ → Bool
+structure-cache kind = leb 4 kind
+
 -- a global translation: kinds 1 and 3 with global 1; a structure cache carries no global mark
 abbrev pub global-translation : Mapping → Bool
 global-translation m = (eqb (m .kind) 1 || eqb (m .kind) 3) && eqb (m .global) 1

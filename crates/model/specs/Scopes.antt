@@ -16,7 +16,7 @@ use Rattle.model.specs.declared.Violation.{Violation}
 use Rattle.model.specs.declared.Entry
 use Rattle.model.specs.Bits.{bits}
 use Rattle.model.specs.Context.{current-vpid, current-ept, after-reset}
-use Rattle.model.specs.Mappings.{linear, guest-physical, combined, global-translation, covers}
+use Rattle.model.specs.Mappings.{linear, guest-physical, combined, structure-cache, global-translation, covers}
 use Rattle.model.specs.Events.{canonical, page-of}
 
 -- the mapping carries a VPID and a PCID: a linear or combined mapping, kinds 1, 3, 4 and 6
@@ -59,13 +59,14 @@ invept-scope o m =
     && cond (eqb (o .«type_number») 1) (eqb (m .ep4ta) (ep4ta-of (o .low))) true
 
 -- "INVLPG, canonical address": kinds 1 and 3 of the current VPID covering the page, with the current
--- PCID or global 1; kinds 4 and 6 of the current VPID and PCID covering the page. Any EP4TA.
+-- PCID or global 1; kinds 4 and 6 of the current VPID and PCID. Document 02, Ask 2, takes the cover test
+-- from kinds 4 and 6 (Volume 3A, 4.10.4). Any EP4TA.
 unfoldable pub invlpg-scope : Context → ℕ → Mapping → Bool
 invlpg-scope c address m =
     canonical address
     && vpid-tagged m
     && eqb (m .vpid) (current-vpid (c .place))
-    && covers (m .span) (m .page) (page-of address)
+    && (structure-cache (m .kind) || covers (m .span) (m .page) (page-of address))
     && current-pcid-or-global c m
 
 -- "EPT violation: kinds 2 and 5 of the current EP4TA covering the guest-physical page."

@@ -13,7 +13,7 @@ use Rattle.model.specs.declared.Operands.{Operands}
 use Rattle.model.specs.declared.Violation.{Violation}
 use Rattle.model.specs.Context.{in-range, current-vpid, current-ept}
 use Rattle.model.specs.Layouts.{kind-of, length-of}
-use Rattle.model.specs.Mappings.{mapping, starts-record, guest-physical, combined, global-translation, covers}
+use Rattle.model.specs.Mappings.{mapping, starts-record, guest-physical, combined, structure-cache, global-translation, covers}
 use Rattle.model.specs.Tables.{limit}
 use Rattle.model.specs.Events.{canonical, page-of, event}
 use Rattle.model.specs.Scopes.{vpid-tagged, vpid-named, ep4ta-of, is-current-ep4ta, current-pcid-or-global}
@@ -60,8 +60,8 @@ invept-misses o m =
       global = false;
     }
 
--- INVLPG tests its own address, and of the mapping kind, VPID, page, and the PCID but of global
--- translations
+-- INVLPG tests its own address, and of the mapping kind and VPID, the PCID but of global translations, and
+-- the page of translations alone (Ask 2)
 unfoldable pub invlpg-misses : Context → ℕ → Mapping → Misses
 invlpg-misses c address m =
     record {
@@ -71,7 +71,7 @@ invlpg-misses c address m =
       vpid = not (eqb (m .vpid) (current-vpid (c .place)));
       pcid = not (current-pcid-or-global c m);
       ep4ta = false;
-      page = not (covers (m .span) (m .page) (page-of address));
+      page = not (structure-cache (m .kind) || covers (m .span) (m .page) (page-of address));
       global = false;
     }
 

@@ -15,7 +15,7 @@ use Rattle.model.specs.declared.Event.{Event}
 use Rattle.model.specs.declared.Event.the-variants.{Creation, Invvpid, Invept, Invlpg, EptViolation, Entry, Exit, Vmxon, Vmxoff, NewPcid, Reset}
 use Rattle.model.specs.Bits.{bit}
 use Rattle.model.specs.Context.{in-range, current-vpid, current-ept}
-use Rattle.model.specs.Mappings.{mapping, guest-physical, combined, global-translation, covers}
+use Rattle.model.specs.Mappings.{mapping, guest-physical, combined, structure-cache, global-translation, covers}
 use Rattle.model.specs.Tables.{limit, records, only, count}
 use Rattle.model.specs.Events.{canonical, page-of, event, valid-event}
 use Rattle.model.specs.Scopes.{vpid-tagged, vpid-named, ep4ta-of, is-current-ep4ta, current-pcid-or-global, scope, invvpid-scope, invept-scope, invlpg-scope, guest-physical-violation-scope, combined-violation-scope, transition-scope}
@@ -166,7 +166,7 @@ invlpg-hit : (c : Context) (address : ℕ) (m : Mapping) → invlpg-scope c addr
 unfolding invlpg-scope invlpg-misses
 invlpg-hit c address m =
     go (canonical address) (vpid-tagged m) (eqb (m .vpid) (current-vpid (c .place)))
-    (covers (m .span) (m .page) (page-of address)) (current-pcid-or-global c m)
+    (structure-cache (m .kind) || covers (m .span) (m .page) (page-of address)) (current-pcid-or-global c m)
   where
     go : (canonical tagged vpid page pcid : Bool) → (canonical && tagged && vpid && page && pcid)
         ≡ hit (record { scope = false; address = not canonical; kind = not tagged; vpid = not vpid; pcid = not pcid; ep4ta = false; page = not page; global = false })

@@ -154,7 +154,7 @@ fn invlpg_misses(c: Context, address: u64, m: Mapping) -> Misses
         vpid: !(m.vpid == vpid),
         pcid: !((m.pcid == c.pcid) | global),
         ep4ta: false,
-        page: !covered,
+        page: !((4 <= m.kind) | covered),
         global: false,
     }
 }

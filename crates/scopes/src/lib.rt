@@ -76,7 +76,7 @@ fn is_in_invlpg_scope(c: Context, address: u64, part: &[u8]) -> bool
     if !(mappings::vpid(part) == contexts::vpid(place)) {
         return false;
     }
-    if !mappings::is_covering(part, addresses::page(address)) {
+    if !((4 <= mappings::kind(part)) | mappings::is_covering(part, addresses::page(address))) {
         return false;
     }
     (mappings::pcid(part) == pcid) | mappings::is_global_translation(part)

@@ -175,12 +175,12 @@ fn wrong_ep4ta(context: &Context, event: &Event, mapping: &Mapping) -> bool {
     }
 }
 
-/// Tested by INVVPID type 0, INVLPG and an EPT violation; of kinds 2 and 5 by
-/// the guest-physical address.
+/// Tested by INVVPID type 0, by INVLPG of kinds 1 and 3 only (Ask 2), and by an
+/// EPT violation, of kinds 2 and 5 by the guest-physical address.
 fn not_covered(event: &Event, mapping: &Mapping) -> bool {
     let address = match *event {
         Event::Invvpid { kind: 0, high, .. } => Some(high),
-        Event::Invlpg { address } => Some(address),
+        Event::Invlpg { address } if mapping.is_translation() => Some(address),
         Event::EptViolation {
             guest_physical,
             linear,

@@ -48,12 +48,13 @@ fn invept(kind: u64, eptp: u64, mapping: &Mapping) -> bool {
     }
 }
 
-/// Kinds 1, 3, 4, 6 of the current VPID, with any EP4TA or none.
+/// Kinds 1, 3, 4, 6 of the current VPID, with any EP4TA or none. Structure
+/// caches go whatever they cover (document 02, Ask 2).
 fn invlpg(context: &Context, address: u64, mapping: &Mapping) -> bool {
     canonical(address)
         && mapping.vpid == Some(context.vpid())
         && (mapping.pcid == Some(context.pcid) || mapping.global)
-        && mapping.covers(page(address))
+        && (!mapping.is_translation() || mapping.covers(page(address)))
 }
 
 /// Kinds 2 and 5 by the guest-physical page; kinds 3 and 6 by the linear

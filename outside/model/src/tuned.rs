@@ -99,6 +99,12 @@ impl Record<'_> {
         !matches!(self.kind(), 2 | 5)
     }
 
+    /// Kinds 1 to 3.
+    #[inline(always)]
+    fn is_translation(self) -> bool {
+        self.kind() <= 3
+    }
+
     /// Of kinds 1, 3, 4, 6.
     #[inline(always)]
     fn vpid(self) -> u64 {
@@ -250,7 +256,7 @@ fn write(
         Event::Invlpg { address } if canonical(address) => {
             let page = page(address);
             sweep(table, new, |r| {
-                r.has_vpid() && r.current(context) && r.covers(page)
+                r.has_vpid() && r.current(context) && (!r.is_translation() || r.covers(page))
             })
         }
         Event::Invlpg { .. } => keep_all(new),

@@ -1,4 +1,5 @@
-//! READINGS.md, sections 1 to 8, place by place. The names carry its numbers.
+//! READINGS.md, sections 1 to 8 and 10, place by place. The names carry its
+//! numbers.
 
 mod common;
 
@@ -235,7 +236,8 @@ fn r2_8_cover_at_the_ends_of_each_span() {
                 }
                 let by_invvpid = drops(&root(), &record, &invvpid(0, 5, page << 12));
                 let by_invlpg = drops(&context, &record, &invlpg(page << 12));
-                assert_eq!(by_invvpid, by_invlpg);
+                // INVLPG takes structure caches whatever they cover.
+                assert_eq!(by_invlpg, by_invvpid || kind > 3);
                 if kind == 1 || kind == 4 {
                     assert!(!by_violation);
                 } else {
@@ -488,9 +490,10 @@ fn r4_6_invlpg_and_pcids() {
     };
     assert_eq!(kinds_dropped(&context, &invlpg(0), other(0)), []);
     assert_eq!(kinds_dropped(&context, &invlpg(0), other(1)), [1, 3]);
-    // Structure caches are taken as those covering the page.
+    // A global translation must cover the page too.
     let far = 1 << 30;
-    assert_eq!(kinds_dropped(&context, &invlpg(far), |_| ()), []);
+    let taken = kinds_dropped(&context, &invlpg(far), |mapping| mapping.global = 1);
+    assert_eq!(taken, [4, 6]);
 }
 
 #[test]
@@ -1128,8 +1131,8 @@ fn r8_6_a_full_table_in_mid_log() {
     let record = m_outside(4);
     let mut log = record.repeat(2_816);
     log.extend(&record); // 12
-    log.extend(invlpg(1 << 30)); // covers nothing
-    log.extend(invlpg(0)); // drops all
+    log.extend(invlpg(ODD)); // has nothing in scope
+    log.extend(invlpg(1 << 30)); // drops all, though none covers it
     log.extend(&record);
     let lines = printed(&log);
     let last: Vec<&str> = lines.lines().skip(2_815).collect();
@@ -1187,4 +1190,57 @@ fn r8_every_truncation() {
             assert_eq!(lines[complete].split(' ').nth(1), Some("4"));
         }
     }
+}
+
+// 10. Ask 2
+
+#[test]
+fn r10_1_invlpg_takes_structure_caches_of_any_page() {
+    let far = 1 << 30;
+    for (context, vpid) in [
+        (outside(), 0),
+        (root(), 0),
+        (guest(0, None), 0),
+        (guest(5, None), 5),
+        (ept_guest(), 5),
+        (guest(5, Some(9)), 5),
+    ] {
+        let taken = |vpid, pcid| {
+            kinds_dropped(&context, &invlpg(far), |mapping| {
+                mapping.vpid = vpid;
+                mapping.pcid = pcid;
+                mapping.ep4ta = 99;
+            })
+        };
+        assert_eq!(taken(vpid, context.pcid), [4, 6]);
+        assert_eq!(taken(vpid, 2), []);
+        assert_eq!(taken(5 - vpid, context.pcid), []);
+    }
+}
+
+#[test]
+fn r10_1_other_events_keep_the_cover_test() {
+    let far = 1 << 30;
+    assert_eq!(kinds_dropped(&root(), &invvpid(0, 5, far), |_| ()), []);
+    let event = violation(far, 1, far);
+    assert_eq!(kinds_dropped(&ept_guest(), &event, |_| ()), []);
+}
+
+#[test]
+fn r10_1_a_canonical_address_is_still_needed() {
+    let own = |mapping: &mut M| mapping.page = 1 << 35;
+    for address in [ODD, 1 << 63, 0xFFFF_7FFF_FFFF_FFFF] {
+        assert_eq!(kinds_dropped(&guest(5, None), &invlpg(address), own), []);
+    }
+}
+
+#[test]
+fn r10_1_the_book_reads_the_new_scope() {
+    let mut book = Book::new(PROGRAM_CAPABILITY, PROGRAM_WIDTH);
+    book.feed(&m_outside(1));
+    book.feed(&m_outside(4));
+    let verdict = book.feed(&invlpg(1 << 30));
+    assert_eq!((verdict.answer, verdict.dropped), (0, 1));
+    assert_eq!(book.table(), m_outside(1));
+    assert_eq!(book.standing_by_notes(), [0]);
 }

@@ -1,4 +1,4 @@
-//! Why a mapping went or stayed (document 02, Ask 1; READINGS.md, section 9):
+//! Why a mapping went or stayed (document 02, Asks 1 and 2; READINGS.md, section 9):
 //! rows worked out from the papers by hand, then random inputs.
 
 mod common;
@@ -210,7 +210,11 @@ fn invlpg_in_order() {
         own_vpid(m);
         m.pcid = 1;
     };
-    assert_eq!(each(&own_pcid), with(NotCovered));
+    // Structure caches go whatever they cover (Ask 2).
+    assert_eq!(
+        each(&own_pcid),
+        [NotCovered, WrongKind, NotCovered, InScope, WrongKind, InScope]
+    );
     // Any EP4TA, with EPT off too.
     let covers = |m: &mut M| m.ep4ta = 9;
     assert_eq!(each(&covers), with(InScope));
@@ -239,6 +243,27 @@ fn invlpg_and_globals() {
         m.vpid = 6;
     };
     assert_eq!(of(&guest(5, None), &event, 1, other_vpid), WrongVpid);
+}
+
+/// Ask 2: of structure caches INVLPG does not test the cover, of any span.
+#[test]
+fn invlpg_and_the_cover_of_structure_caches() {
+    for span in 1..=3 {
+        for address in [0, FAR, 0x7FFF_FFFF_F000, u64::MAX] {
+            let event = invlpg(address);
+            let own = |m: &mut M| m.span = span;
+            for kind in [4, 6] {
+                assert_eq!(of(&ept_guest(), &event, kind, own), InScope);
+            }
+        }
+    }
+    // INVVPID type 0 and an EPT violation do.
+    let kept = [NotCovered, WrongKind, NotCovered];
+    let by_invvpid = kinds(&root(), &invvpid(0, 5, FAR), |_| ());
+    assert_eq!(by_invvpid, [kept, kept].concat()[..]);
+    let by_violation = kinds(&ept_guest(), &violation(FAR, 1, FAR), |_| ());
+    let kept = [WrongKind, NotCovered, NotCovered];
+    assert_eq!(by_violation, [kept, kept].concat()[..]);
 }
 
 #[test]

@@ -86,26 +86,31 @@ fn every_kind(rng: &mut Rng) -> Vec<u8> {
     bytes
 }
 
-/// A log that fills the table to exactly 45,056 bytes with 2,816 structure caches, is refused one more,
-/// drops one by INVLPG, creates one again and is refused the next.
+/// A log that fills the table to exactly 45,056 bytes with 2,816 structure caches, the last of them
+/// under a PCID of its own, is refused one more, drops that one by INVLPG of a page that it does not
+/// cover, creates one again and is refused the next.
 fn full_to_the_byte() -> Vec<u8> {
-    let created = |i: u64| {
-        let mut record = vec![4, 0, 0, 0, 0, 1];
+    let created = |pcid: u8, i: u64| {
+        let mut record = vec![4, 0, 0, pcid, 0, 1];
         record.extend(&(i * 512).to_le_bytes()[..5]);
         record.extend([9, 0, 0, 0, 0]);
         record
     };
-    let mut bytes: Vec<u8> = (0..2817).flat_map(created).collect();
+    let mut bytes: Vec<u8> = (0..2815).flat_map(|i| created(0, i)).collect();
+    // PCID 1, CPL 0.
+    bytes.extend([24, 1, 0, 0]);
+    bytes.extend(created(1, 1));
+    bytes.extend(created(1, 2));
     bytes.push(18);
     bytes.extend([0; 8]);
-    bytes.extend(created(1));
-    bytes.extend(created(2));
+    bytes.extend(created(1, 3));
+    bytes.extend(created(1, 4));
     bytes
 }
 
-/// The lines that document 01 gives for the end of that log.
-const FULL_END: &str =
-    "2816 0 0 45056\n2817 12 0 45056\n2818 0 1 45040\n2819 0 0 45056\n2820 12 0 45056\n";
+/// The lines that the papers give for the end of that log.
+const FULL_END: &str = "2815 0 0 45040\n2816 0 0 45040\n2817 0 0 45056\n2818 12 0 45056\n\
+    2819 0 1 45040\n2820 0 0 45056\n2821 12 0 45056\n";
 
 fn run(replay: &str, examples: &Path) -> Result<usize, String> {
     let mut rng = Rng::new(SEED);
@@ -159,8 +164,7 @@ fn run(replay: &str, examples: &Path) -> Result<usize, String> {
     )?;
     if !String::from_utf8_lossy(&printed(replay, &full, 65_536)?).ends_with(FULL_END) {
         return Err(
-            "a log that fills the table to the byte ends otherwise than document 01 says"
-                .to_string(),
+            "a log that fills the table to the byte ends otherwise than the papers say".to_string(),
         );
     }
     count += 2;

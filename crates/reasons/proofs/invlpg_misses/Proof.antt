@@ -4,7 +4,7 @@ use Rattle.reasons.proofs.invlpg_misses.Tie as tie
 
 returns : tie.Need-returns
 unfolding Rattle.reasons.specs.Reasons.invlpg-misses
-returns c = rw (c .before .before .before .is-covered .ensures, c .before .before .before .before .page .ensures, c .before .before .before .before .before .is-global-translation .ensures, c .before .before .before .before .before .before .is-combined .ensures, c .before .before .before .before .before .before .before .is-linear .ensures, c .before .before .before .before .before .before .before .before .is-canonical .ensures, c .before .before .before .before .before .before .before .before .before .vpid .ensures)
+returns c = rw (c .before .before .before .before .is-covered .ensures, c .before .before .before .before .before .page .ensures, c .before .before .before .before .before .before .is-global-translation .ensures, c .before .before .before .before .before .before .before .is-combined .ensures, c .before .before .before .before .before .before .before .before .is-linear .ensures, c .before .before .before .before .before .before .before .before .before .is-canonical .ensures, c .before .before .before .before .before .before .before .before .before .before .vpid .ensures)
 
 pub invlpg-misses-spec : {M : Type 1} → statement M
 invlpg-misses-spec = tie.close (tie.spec (λ c κs. tt) (λ c κs. tt) (λ c κs. tt) (λ c κs. tt) (λ c κs. tt) (λ c κs. tt) (λ c κs. tt) returns)
