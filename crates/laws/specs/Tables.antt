@@ -12,7 +12,7 @@ use borrow.Author.Tests.{eqb-true, eq-eqb}
 use Rattle.model.specs.Layouts.{kind-of, length-of}
 use Rattle.model.specs.Mappings.{mapping, record-length}
 use Rattle.model.specs.Tables.{joined, cut, records-within, records, whole, only, count}
-use Rattle.laws.specs.Lists.{Every, none, more}
+use Rattle.laws.specs.Lists.{Every, none, more, cond-append}
 use Rattle.laws.specs.Mappings.{Held, Valid, mapping-take, held-record-length, record-length-kind, record-length-le, valid-take, valid-append}
 
 -- records end to end
@@ -47,6 +47,24 @@ pub only-none : (p : List ℕ → Bool) (rs : List (List ℕ)) → ((r : List �
 unfolding only
 only-none p [] h = refl
 only-none p (r ∷ rs) h = only-false p r rs (h r) ∙ only-none p rs h
+
+pub only-append : (p : List ℕ → Bool) (rs ss : List (List ℕ)) → only p (rs ++ ss) ≡ only p rs ++ only p ss
+unfolding only
+only-append p [] ss = refl
+only-append p (r ∷ rs) ss = rw (only-append p rs ss) (cond-append (p r) r (only p rs) (only p ss))
+
+-- two tests in either order
+pub only-swap : (p q : List ℕ → Bool) (rs : List (List ℕ)) → only p (only q rs) ≡ only q (only p rs)
+unfolding only
+only-swap p q [] = refl
+only-swap p q (r ∷ rs) = go (p r) (q r) refl refl (only-swap p q rs)
+  where
+    go : (a b : Bool) → p r ≡ a → q r ≡ b → only p (only q rs) ≡ only q (only p rs)
+        → only p (cond b (r ∷ only q rs) (only q rs)) ≡ only q (cond a (r ∷ only p rs) (only p rs))
+    go true true e f h = rw (e, f, h)
+    go true false e f h = rw (f, h)
+    go false true e f h = rw (e, h)
+    go false false e f h = h
 
 pub every-only : {P : List ℕ → Type 0} (p : List ℕ → Bool) {rs : List (List ℕ)} → Every P rs → Every P (only p rs)
 unfolding only
