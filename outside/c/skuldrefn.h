@@ -207,8 +207,8 @@ typedef struct {
  * log_length is always enough.
  *
  * The replay ends with the log, after an unknown kind or a cut record (which
- * takes all bytes left and is answered 4), after an answer 2 or 3, or where
- * there is no room for another row.
+ * takes all bytes left and is answered 4), or where there is no room for
+ * another row.
  */
 skuldrefn_replayed skuldrefn_replay(
     uint64_t capability, uint64_t width,

@@ -1,12 +1,12 @@
 -- Answers: what an accepted event's answer says, and on what the answer of an event depends.
 use Prim.Native.Nat.{ℕ, suc, min, _+_, _≤_, _<_}
 use mathlib.Core.Path.{_≡_, refl, sym, _∙_}
-use mathlib.Core.Bool.{Bool, true, false, cond, not, _&&_, and-eq-true-iff}
+use mathlib.Core.Bool.{Bool, true, false, cond, not, _&&_, and-eq-true-iff, false≢true}
 use mathlib.Core.List.{List, [], _∷_, _++_, append-assoc}
 use native.Mathlib.Omega.{arith}
 use lib.Dec.{eqb, ltb}
 use lib.ListN.{length}
-use borrow.Author.Tests.{ltb-true, ltb-false, le-ltb, eqb-false, not-true, not-false}
+use borrow.Author.Tests.{ltb-true, ltb-false, le-ltb, eqb-false, not-true, not-false, eq-eqb}
 use Rattle.model.specs.declared.Context.{Context}
 use Rattle.model.specs.Context.{in-range}
 use Rattle.model.specs.Tables.{limit, whole}
@@ -130,6 +130,36 @@ pub answer-no-room : (c : Context) (t e : List ℕ) (room : ℕ) → answer c t 
 unfolding answer grounds table-grounds event-grounds
 answer-no-room c t e room h =
     first-last-applies (table-grounds c t ++ ((4, not (valid-event e)) ∷ []) ++ event-grounds c (event e)) 11 (no-room room t e) refl h
+
+-- a number is not given where no ground of it applies
+abbrev absent : ℕ → List (ℕ × Bool) → Bool
+absent n [] = true
+absent n (g ∷ gs) = not (eqb n (g .0) && g .1) && absent n gs
+
+first-absent : (gs : List (ℕ × Bool)) (n : ℕ) → absent (suc n) gs ≡ true → first gs ≡ suc n → ⊥
+unfolding first
+first-absent [] n h e = omega arith
+first-absent (g ∷ gs) n h e =
+    let parts = and-eq-true-iff (not (eqb (suc n) (g .0) && g .1)) (absent (suc n) gs) .0 h in
+    go (g .1) e (parts .0) (λ k. first-absent gs n (parts .1) k)
+  where
+    go : (b : Bool) → cond b (g .0) (first gs) ≡ suc n → not (eqb (suc n) (g .0) && b) ≡ true → (first gs ≡ suc n → ⊥) → ⊥
+    go true k off ih = false≢true (rw (eq-eqb (suc n) (g .0) (sym k)) at off)
+    go false k off ih = ih k
+
+-- a whole table that is short enough is not answered 2 or 3, and in a context in its ranges not 1
+module _ (c : Context) (t e : List ℕ) (room : ℕ) (w : whole t ≡ true) (short : length t ≤ limit) where
+  pub answer-not-2 : answer c t e room ≡ 2 → ⊥
+  unfolding answer grounds event-grounds
+  answer-not-2 = first-absent (grounds c t e room) 1 (rw (table-grounds-whole c t w short))
+
+  pub answer-not-3 : answer c t e room ≡ 3 → ⊥
+  unfolding answer grounds event-grounds
+  answer-not-3 = first-absent (grounds c t e room) 2 (rw (table-grounds-whole c t w short))
+
+  pub answer-not-1 : in-range c ≡ true → answer c t e room ≡ 1 → ⊥
+  unfolding answer grounds event-grounds
+  answer-not-1 fits = first-absent (grounds c t e room) 0 (rw (table-grounds-whole c t w short, fits))
 
 -- the answer of grounds end to end: that of the first part, or of the second where it gives none
 pub first-append-some : (gs hs : List (ℕ × Bool)) → (first gs ≡ 0 → ⊥) → first (gs ++ hs) ≡ first gs

@@ -4,5 +4,6 @@ pub mod Layouts
 pub mod Mappings
 pub mod Tables
 pub mod Events
+pub mod Context
 pub mod Answers
 pub mod Steps

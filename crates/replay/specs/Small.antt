@@ -17,7 +17,7 @@ use Rattle.laws.specs.Tables.{count-le}
 use Rattle.runs.specs.Book.{Report}
 use Rattle.runs.specs.Runs.{Run, run-answer, run-after, run-report}
 use Rattle.runs.specs.Laws.Steps.{by-answer, run-answer-is, run-report-accepted, run-report-refused, Sound, sound-after}
-use Rattle.replays.specs.Replays.{Line, stops, run-line, run-lines}
+use Rattle.replays.specs.Replays.{Line, run-line, run-lines}
 
 pub record Small (l : Line) : Type 0 where
   pub answer : l .answer < 2 ^ 64
@@ -79,8 +79,4 @@ pub small-lines : (s : Run) (es : List (List ℕ)) → Sound s → Every Small (
 unfolding run-lines
 small-lines s [] sound = none
 small-lines s (e ∷ es) sound =
-    more (small-line s e sound) (go (stops (run-answer s e)) (small-lines (run-after s e) es (sound-after s e sound)))
-  where
-    go : (b : Bool) → Every Small (run-lines (run-after s e) es) → Every Small (cond b [] (run-lines (run-after s e) es))
-    go true h = none
-    go false h = h
+    more (small-line s e sound) (small-lines (run-after s e) es (sound-after s e sound))

@@ -3,4 +3,5 @@
 pub mod Logs
 pub mod State
 pub mod Replays
+pub mod Stops
 pub mod Laws

@@ -1,14 +1,15 @@
--- Document 01, "Replay program": what is reported of each event, and when the run ends.
+-- Document 01, "Replay program": what is reported of each event. Its sentence "Should a step answer 2 or 3,
+-- print its line and end" is taken back by document 02, Ask 9, since no step does (`Stops.antt`).
 use Prim.Native.Nat.{ℕ, zero, suc, _+_, _/_, _%_}
-use mathlib.Core.Bool.{Bool, true, cond, not, _||_}
+use mathlib.Core.Bool.{Bool, true, cond, not}
 use mathlib.Core.List.{List, [], _∷_, _++_}
 use mathlib.Core.Path.{_≡_}
 use lib.Dec.{eqb}
 use lib.ListN.{length, take, drop}
 use Rattle.model.specs.declared.Context.{Context}
 use Rattle.model.specs.Steps.{overwritten}
-use Rattle.runs.specs.Book.{Book, opened, book-table, book-answer, book-after, book-report}
-use Rattle.runs.specs.Runs.{Run, started, run-answer, run-after, run-report}
+use Rattle.runs.specs.Book.{Book, opened, book-table, book-answer, book-after, book-report, book-of}
+use Rattle.runs.specs.Runs.{Run, started, run-answer, run-after, run-report, run-of}
 use Rattle.replays.specs.declared.Replayed.{Replayed}
 use Rattle.replays.specs.Logs.{events-of}
 
@@ -18,21 +19,13 @@ pub record Line : Type 0 where
   pub dropped : ℕ
   pub length : ℕ
 
--- "Should a step answer 2 or 3, print its line and end."
-abbrev pub stops : ℕ → Bool
-stops answer = eqb answer 2 || eqb answer 3
-
--- the lines of a run on a list of events, and the run after it
+-- the lines of a run on a list of events
 unfoldable pub run-line : Run → List ℕ → Line
 run-line s e = record { answer = run-answer s e; dropped = run-report s e .dropped; length = length (run-after s e .table) }
 
 unfoldable pub run-lines : Run → List (List ℕ) → List Line
 run-lines s [] = []
-run-lines s (e ∷ es) = run-line s e ∷ cond (stops (run-answer s e)) [] (run-lines (run-after s e) es)
-
-unfoldable pub run-ended : Run → List (List ℕ) → Run
-run-ended s [] = s
-run-ended s (e ∷ es) = cond (stops (run-answer s e)) (run-after s e) (run-ended (run-after s e) es)
+run-lines s (e ∷ es) = run-line s e ∷ run-lines (run-after s e) es
 
 -- whether the first of the two buffers holds the table after the events, as it does or does not
 -- before them: an accepted event puts it into the other
@@ -41,8 +34,7 @@ side-after first s e = cond (eqb (run-answer s e) 0) (not first) first
 
 unfoldable pub side-ended : Bool → Run → List (List ℕ) → Bool
 side-ended first s [] = first
-side-ended first s (e ∷ es) =
-    cond (stops (run-answer s e)) (side-after first s e) (side-ended (side-after first s e) (run-after s e) es)
+side-ended first s (e ∷ es) = side-ended (side-after first s e) (run-after s e) es
 
 -- the same of the book
 unfoldable pub book-line : Book → List ℕ → Line
@@ -50,11 +42,7 @@ book-line b e = record { answer = book-answer b e; dropped = book-report b e .dr
 
 unfoldable pub book-lines : Book → List (List ℕ) → List Line
 book-lines b [] = []
-book-lines b (e ∷ es) = book-line b e ∷ cond (stops (book-answer b e)) [] (book-lines (book-after b e) es)
-
-unfoldable pub book-ended : Book → List (List ℕ) → Book
-book-ended b [] = b
-book-ended b (e ∷ es) = cond (stops (book-answer b e)) (book-after b e) (book-ended (book-after b e) es)
+book-lines b (e ∷ es) = book-line b e ∷ book-lines (book-after b e) es
 
 -- n bytes of a number, little-endian
 unfoldable pub bytes : ℕ → ℕ → List ℕ
@@ -88,23 +76,23 @@ abbrev pub back-of : Replayed → List ℕ → List ℕ → List ℕ
 back-of r a b = cond (r .first) b a
 
 -- what a replay of a log leaves and reports: the context, the length of the table in force, how many
--- lines there are, which buffer holds the table, the two buffers and the lines as rows, all of them the run's, for buffers of any
--- length
+-- lines there are, which buffer holds the table, the two buffers and the lines as rows, all of them the
+-- run's, for buffers of any length
 pub record Replays (c : Context) (log a b out : List ℕ) (r : Replayed) (a′ b′ out′ : List ℕ) : Type 0 where
-  pub context : r .context ≡ run-ended (started c a b) (replayed log (length out)) .context
-  pub size : r .length ≡ length (run-ended (started c a b) (replayed log (length out)) .table)
+  pub context : r .context ≡ run-of (started c a b) (replayed log (length out)) .context
+  pub size : r .length ≡ length (run-of (started c a b) (replayed log (length out)) .table)
   pub count : r .count ≡ length (run-lines (started c a b) (replayed log (length out)))
   pub first : r .first ≡ side-ended true (started c a b) (replayed log (length out))
-  pub table : take (r .length) (front-of r a′ b′) ≡ run-ended (started c a b) (replayed log (length out)) .table
-  pub front : front-of r a′ b′ ≡ run-ended (started c a b) (replayed log (length out)) .front
-  pub back : back-of r a′ b′ ≡ run-ended (started c a b) (replayed log (length out)) .back
+  pub table : take (r .length) (front-of r a′ b′) ≡ run-of (started c a b) (replayed log (length out)) .table
+  pub front : front-of r a′ b′ ≡ run-of (started c a b) (replayed log (length out)) .front
+  pub back : back-of r a′ b′ ≡ run-of (started c a b) (replayed log (length out)) .back
   pub lines : out′ ≡ overwritten (rows (run-lines (started c a b) (replayed log (length out)))) out
 
 -- with buffers of at least 45,056 bytes: the context, the table byte for byte and the lines are the
 -- book's
 pub record ByTheBook (c : Context) (log out : List ℕ) (r : Replayed) (a′ b′ out′ : List ℕ) : Type 0 where
-  pub context : r .context ≡ book-ended (opened c) (replayed log (length out)) .context
-  pub size : r .length ≡ length (book-table (book-ended (opened c) (replayed log (length out))))
+  pub context : r .context ≡ book-of (opened c) (replayed log (length out)) .context
+  pub size : r .length ≡ length (book-table (book-of (opened c) (replayed log (length out))))
   pub count : r .count ≡ length (book-lines (opened c) (replayed log (length out)))
-  pub table : take (r .length) (front-of r a′ b′) ≡ book-table (book-ended (opened c) (replayed log (length out)))
+  pub table : take (r .length) (front-of r a′ b′) ≡ book-table (book-of (opened c) (replayed log (length out)))
   pub lines : out′ ≡ overwritten (rows (book-lines (opened c) (replayed log (length out)))) out

@@ -135,8 +135,8 @@ fn put_row(out: &mut [u8], at: usize, answer: u64, dropped: usize, size: usize)
 }
 
 // Replays the events of a log from a reset, with the capability and width of a context, through two
-// buffers. It writes a row of 24 bytes for each event, and ends after an unknown kind, a cut record,
-// an answer 2 or 3, or where there is no room for another row.
+// buffers. It writes a row of 24 bytes for each event, and ends after an unknown kind or a cut record, or
+// where there is no room for another row.
 pub fn replay(
     c: Context,
     log: &[u8],
@@ -155,8 +155,7 @@ pub fn replay(
     let mut at = 0;
     let mut count = 0;
     let mut written = 0;
-    let mut stopped = false;
-    while (at < log.len()) & (24 <= rows.len() - written) & !stopped {
+    while (at < log.len()) & (24 <= rows.len() - written) {
         let end = at + size_of_event(&log[at..]);
         let advanced = advance(state, &log[at..end], first, second);
         let step = advanced.step;
@@ -165,7 +164,6 @@ pub fn replay(
         written += 24;
         count += 1;
         at = end;
-        stopped = (step.answer == 2) | (step.answer == 3);
     }
     let context = state.context;
     Replayed {

@@ -16,11 +16,11 @@ use Rattle.replays.proofs.replay.Statement.{statement}
 use Rattle.replays.proofs.replay.Tie as tie
 
 abbrev Inv-loop : tie.InvT-loop
-Inv-loop log first₀ second₀ rows₀ state₀ at₀ count₀ written₀ stopped₀ first second rows state at count written stopped =
-    Replaying (state₀ .first) (run-at state₀ first₀ second₀) log first₀ second₀ rows₀ state at count written stopped first second rows
+Inv-loop log first₀ second₀ rows₀ state₀ at₀ count₀ written₀ first second rows state at count written =
+    Replaying (state₀ .first) (run-at state₀ first₀ second₀) log first₀ second₀ rows₀ state at count written first second rows
 
 abbrev μ-loop : tie.MeasureT-loop
-μ-loop log first₀ second₀ rows₀ state₀ at₀ count₀ written₀ stopped₀ first second rows state at count written stopped =
+μ-loop log first₀ second₀ rows₀ state₀ at₀ count₀ written₀ first second rows state at count written =
     length log - at
 
 reset-requires : tie.Need-reset-requires Inv-loop μ-loop
@@ -36,7 +36,7 @@ sub-loop c = omega arith
 
 -- in a turn there is an event, and room for its row
 goes : (c : tie.In-loop Inv-loop μ-loop)
-    → Going (now (c .before .before .before .before .before .before .before .args .log)) (length (now (c .before .before .before .before .before .before .before .args .rows))) (c .before .loop .at) (c .before .loop .written) (c .before .loop .stopped)
+    → Going (now (c .before .before .before .before .before .before .before .args .log)) (length (now (c .before .before .before .before .before .before .before .args .rows))) (c .before .loop .at) (c .before .loop .written)
 goes c = replaying-going (c .before .loop .inv) (c .loop-test .taken)
 
 sub-size-of-event : tie.Need-sub-size-of-event Inv-loop μ-loop
@@ -92,18 +92,18 @@ add-count c =
 
 loop-less : tie.Need-loop-less Inv-loop μ-loop
 loop-less c =
-    let t = c .before .before .before .before .before .before .before .before .before .before .before .before .before .before .before .before in
+    let t = c .before .before .before .before .before .before .before .before .before .before .before .before .before .before in
     omega (arith, goes (t .before .before) .more, within t)
 
 loop-again : tie.Need-loop-again Inv-loop μ-loop
 loop-again c =
-    let t = c .before .before .before .before .before .before .before .before .before .before .before .before .before .before .before .before in
+    let t = c .before .before .before .before .before .before .before .before .before .before .before .before .before .before in
     let l = t .before .before .before .loop in
     let is = size t in
     let part : l .at + t .size-of-event .result - l .at ≡ event-size (drop (l .at) (now (t .before .before .before .before .before .before .before .before .before .args .log))) = omega arith in
-    let call = c .before .before .before .before .before .before .before .before .before .before .before .before .advance in
+    let call = c .before .before .before .before .before .before .before .before .before .before .advance in
     rw is
-    (replaying-turn (l .inv) (goes (t .before .before)) (rw part at (call .ensures)) (call .kept .1 .1 .0) (call .kept .1 .1 .1 .0) (c .before .before .before .before .put-row .ensures))
+    (replaying-turn (l .inv) (goes (t .before .before)) (rw part at (call .ensures)) (call .kept .1 .1 .0) (call .kept .1 .1 .1 .0) (c .before .before .put-row .ensures))
 
 same-length : tie.Need-same-length Inv-loop μ-loop
 same-length c = c .before .before .loop .inv .first

@@ -1,0 +1,136 @@
+-- Contexts: an event of bytes leaves a context in its ranges.
+use Prim.Native.Nat.{ℕ, zero, suc, _≤_, _<_, _/_, _%_, _^_}
+use mathlib.Core.Path.{_≡_, refl}
+use mathlib.Core.Bool.{Bool, true, false, cond, _&&_, and-eq-true-iff}
+use mathlib.Core.List.{List, [], _∷_}
+use native.Mathlib.Nat.{mod-lt}
+use native.Mathlib.Omega.{arith}
+use lib.Dec.{eqb, leb, ltb}
+use lib.ListN.{getD}
+use borrow.Author.Tests.{eqb-true, le-leb, lt-ltb}
+use Rattle.model.specs.declared.Context.{Context}
+use Rattle.model.specs.declared.Place.{Place}
+use Rattle.model.specs.declared.Place.the-variants.{Outside, Root, Guest}
+use Rattle.model.specs.declared.Ept.the-variants.{Off, On}
+use Rattle.model.specs.declared.Entry
+use Rattle.model.specs.declared.Event.{Event}
+use Rattle.model.specs.declared.Event.the-variants.{Creation, Invvpid, Invept, Invlpg, EptViolation, Entry, Exit, Vmxon, Vmxoff, NewPcid, Reset}
+use Rattle.model.specs.Context.{in-range, pcid-in-range, cpl-in-range, ept-in-range, place-in-range, after-reset}
+use Rattle.model.specs.Layouts.{Field, field, kind-of, mapping-kind, body-of}
+use Rattle.model.specs.Mappings.{mapping}
+use Rattle.model.specs.Events.{event, operands, violation, entry, new-pcid, flag-in-range, event-in-range}
+use Rattle.model.specs.Scopes.{entered, moved, ep4ta-of, next-context}
+use Rattle.laws.specs.Lists.{Every, none, more}
+
+-- what it is that a context is in its ranges, part by part
+pub record InRange (c : Context) : Type 0 where
+  pub low : leb 36 (c .width) ≡ true
+  pub high : leb (c .width) 52 ≡ true
+  pub pcid : pcid-in-range (c .pcid) ≡ true
+  pub cpl : cpl-in-range (c .cpl) ≡ true
+  pub place : place-in-range (c .place) ≡ true
+
+pub in-range-parts : (c : Context) → in-range c ≡ true → InRange c
+unfolding in-range
+in-range-parts c h =
+    let four = and-eq-true-iff _ _ .0 h in
+    let three = and-eq-true-iff _ _ .0 (four .0) in
+    let two = and-eq-true-iff _ _ .0 (three .0) in
+    let one = and-eq-true-iff _ _ .0 (two .0) in
+    record { low = one .0; high = one .1; pcid = two .1; cpl = three .1; place = four .1 }
+
+pub in-range-moved : (c : Context) (pcid cpl : ℕ) (place : Place) → in-range c ≡ true → pcid-in-range pcid ≡ true → cpl-in-range cpl ≡ true
+    → place-in-range place ≡ true
+    → in-range (moved c pcid cpl place) ≡ true
+unfolding in-range
+in-range-moved c pcid cpl place h p q r =
+    let parts = in-range-parts c h in
+    rw (parts .low, parts .high, p, q, r)
+
+-- bytes, and the VPID that a VM entry of bytes names
+abbrev pub Bytes : List ℕ → Type 0
+Bytes xs = Every (λ (x : ℕ). x < 256) xs
+
+getD-bytes : {xs : List ℕ} → Bytes xs → (i : ℕ) → getD xs i 0 < 256
+getD-bytes none i = omega arith
+getD-bytes (more h hs) zero = h
+getD-bytes (more h hs) (suc i) = getD-bytes hs i
+
+vpid-of-entry : (e : List ℕ) → Bytes e → kind-of e ≡ 20 → entry e .vpid ≤ 65535
+unfolding entry field body-of
+vpid-of-entry e bytes is = rw is (omega (arith, getD-bytes bytes 2, getD-bytes bytes 3))
+
+-- a VM entry's VPID has two bytes
+abbrev pub Vpid : Event → Type 0
+Vpid (Creation m) = Unit {0}
+Vpid (Invvpid o) = Unit {0}
+Vpid (Invept o) = Unit {0}
+Vpid (Invlpg address) = Unit {0}
+Vpid (EptViolation v) = Unit {0}
+Vpid (Entry n) = n .vpid ≤ 65535
+Vpid (Exit pcid) = Unit {0}
+Vpid Vmxon = Unit {0}
+Vpid Vmxoff = Unit {0}
+Vpid (NewPcid n) = Unit {0}
+Vpid Reset = Unit {0}
+
+pub vpid-of-event : (e : List ℕ) → Bytes e → Vpid (event e)
+unfolding event
+vpid-of-event e bytes =
+    go (mapping-kind (kind-of e)) (eqb (kind-of e) 16) (eqb (kind-of e) 17) (eqb (kind-of e) 18) (eqb (kind-of e) 19)
+    (eqb (kind-of e) 20) (eqb (kind-of e) 21) (eqb (kind-of e) 22) (eqb (kind-of e) 23) (eqb (kind-of e) 24) refl
+  where
+    go : (a b c d f g h i j k : Bool) → eqb (kind-of e) 20 ≡ g
+        → Vpid
+        (cond a (Creation (mapping e))
+        (cond b (Invvpid (operands e))
+        (cond c (Invept (operands e))
+        (cond d (Invlpg (field Field.linear-address e))
+        (cond f (EptViolation (violation e))
+        (cond g (Entry (entry e))
+        (cond h (Exit (field Field.pcid e)) (cond i Vmxon (cond j Vmxoff (cond k (NewPcid (new-pcid e)) Reset))))))))))
+    go true b c d f g h i j k is = tt
+    go false true c d f g h i j k is = tt
+    go false false true d f g h i j k is = tt
+    go false false false true f g h i j k is = tt
+    go false false false false true g h i j k is = tt
+    go false false false false false true h i j k is = vpid-of-entry e bytes (eqb-true (kind-of e) 20 is)
+    go false false false false false false true i j k is = tt
+    go false false false false false false false true j k is = tt
+    go false false false false false false false false true k is = tt
+    go false false false false false false false false false true is = tt
+    go false false false false false false false false false false is = tt
+
+entered-in-range : (n : Entry.Entry) → n .vpid ≤ 65535 → place-in-range (entered n) ≡ true
+unfolding entered
+entered-in-range n small = go (eqb (n .vpids) 1) (eqb (n .ept) 1)
+  where
+    go : (vpids ept : Bool) → (leb (cond vpids (n .vpid) 0) 65535 && ept-in-range (cond ept (On (ep4ta-of (n .eptp))) Off)) ≡ true
+    go true true = rw (le-leb (n .vpid) 65535 small) (lt-ltb (ep4ta-of (n .eptp)) (2 ^ 40) (omega arith))
+    go true false = rw (le-leb (n .vpid) 65535 small)
+    go false true = lt-ltb (ep4ta-of (n .eptp)) (2 ^ 40) (omega arith)
+    go false false = refl
+
+pub next-context-in-range : (c : Context) (e : Event) → Vpid e → event-in-range e ≡ true → in-range c ≡ true → in-range (next-context c e) ≡ true
+unfolding next-context event-in-range after-reset
+next-context-in-range c (Creation m) v fits h = h
+next-context-in-range c (Invvpid o) v fits h = h
+next-context-in-range c (Invept o) v fits h = h
+next-context-in-range c (Invlpg address) v fits h = h
+next-context-in-range c (EptViolation violation) v fits h = h
+next-context-in-range c (Entry n) v fits h =
+    let flags = flag-in-range (n .vpids) && flag-in-range (n .ept) in
+    let cpl = and-eq-true-iff (flags && pcid-in-range (n .pcid)) (cpl-in-range (n .cpl)) .0 fits in
+    let pcid = and-eq-true-iff flags (pcid-in-range (n .pcid)) .0 (cpl .0) in
+    in-range-moved c (n .pcid) (n .cpl) (entered n) h (pcid .1) (cpl .1) (entered-in-range n v)
+next-context-in-range c (Exit pcid) v fits h = in-range-moved c pcid 0 Root h fits refl refl
+next-context-in-range c Vmxon v fits h =
+    let parts = in-range-parts c h in
+    in-range-moved c (c .pcid) (c .cpl) Root h (parts .pcid) (parts .cpl) refl
+next-context-in-range c Vmxoff v fits h =
+    let parts = in-range-parts c h in
+    in-range-moved c (c .pcid) (c .cpl) Outside h (parts .pcid) (parts .cpl) refl
+next-context-in-range c (NewPcid n) v fits h =
+    let both = and-eq-true-iff (pcid-in-range (n .pcid)) (cpl-in-range (n .cpl)) .0 fits in
+    in-range-moved c (n .pcid) (n .cpl) (c .place) h (both .0) (both .1) (in-range-parts c h .place)
+next-context-in-range c Reset v fits h = in-range-moved c 0 0 Outside h refl refl refl
