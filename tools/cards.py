@@ -37,6 +37,11 @@ def combined_structure(v, p, s, page):
     return bytes([6]) + le(2, v) + le(2, p) + bytes([s]) + le(5, page) + le(5, 9) + le(5, EP4TA)
 
 
+# A combined record with another EP4TA.
+def other_ep4ta(record):
+    return record[:-5] + le(5, EP4TA + 1)
+
+
 # Events.
 def invvpid(t, low, high):
     return bytes([16]) + le(8, t) + le(8, low) + le(8, high)
@@ -163,6 +168,8 @@ REASONS = [
     ("why: INVVPID 1, kind 2", root(), G, invvpid(1, 5, 0), 4, 0),
     ("why: INVEPT 2, kind 1", root(), A, invept(2, 0, 0), 4, 0),
     ("why: EPT violation with flag 0, kind 3", EPT_GUEST, combined(9, 9, 0, 0, 0), violation(0, 0, 0), 4, 0),
+    ("why: EPT violation, kind 1", EPT_GUEST, linear(5, 1, 0, 0, 0), violation(0, 1, 0), 4, 0),
+    ("why: INVVPID 3, global of another VPID", root(), linear(6, 1, 1, 0, 0), invvpid(3, 5, 0), 5, 0),
     ("why: INVVPID 1 of another VPID", root(), A, invvpid(1, 6, 0), 5, 0),
     ("why: INVVPID 2 of VPID 0", root(), linear(0, 1, 0, 0, 0), invvpid(2, 0, 0), 5, 0),
     ("why: entry without VPIDs, VPID 5", root(), A, entry(0, 0, 0, 0, 1, 0), 5, 0),
@@ -170,9 +177,12 @@ REASONS = [
     ("why: INVLPG, PCID 2 and another page", GUEST, linear(5, 2, 0, 0, 0x12345), invlpg(0), 6, 0),
     ("why: INVLPG, structure cache of PCID 2", GUEST, linear_structure(5, 2, 1, 0), invlpg(0), 6, 0),
     ("why: EPT violation, global of another PCID", EPT_GUEST, combined(5, 2, 1, 0, 0), violation(0, 1, 0), 6, 0),
+    ("why: EPT violation, kind 3 of another PCID and EP4TA", EPT_GUEST, other_ep4ta(combined(5, 2, 0, 0, 0)), violation(0, 1, 0), 6, 0),
+    ("why: EPT violation, kind 3 of another EP4TA and page", EPT_GUEST, other_ep4ta(combined(5, 1, 0, 0, 1)), violation(0, 1, 0), 7, 0),
     ("why: INVEPT 1 of another EP4TA", root(), G, invept(1, 0x1E, 0), 7, 0),
     ("why: type 0, address 12346000h", root(), A, invvpid(0, 5, 0x12346000), 8, 0),
     ("why: INVLPG, global of PCID 2 and another page", GUEST, linear(5, 2, 1, 0, 0x12345), invlpg(0), 8, 0),
+    ("why: EPT violation, kind 3 at the guest-physical page alone", EPT_GUEST, combined(5, 1, 0, 0, 0), violation(0, 1, 0x1000), 8, 0),
     ("why: EPT violation, G and another page", EPT_GUEST, G, violation(0, 0, 0), 8, 0),
     ("why: A with global 1 under type 3", root(), linear(5, 1, 1, 0, 0x12345), invvpid(3, 5, 0), 9, 0),
     ("why: A under type 3", root(), A, invvpid(3, 5, 0), 10, 0),

@@ -2,7 +2,7 @@
 """Checks the must-fail edits, before the prover tries them: each text to replace stands exactly once in
 its file, and every public function is named by two edits of its crate or more.
 
-The first line of an edit is '# ', the functions whose contracts it breaks, ': ', and what it does wrong.
+The first line of an edit is '# ', the public functions whose results it changes, ': ', and what it does wrong.
 Prints what is amiss, a line each, and exits with 1 then.
 """
 import glob

@@ -160,8 +160,8 @@ enum {
     SKULDREFN_WRONG_VPID = 5,
     SKULDREFN_WRONG_PCID = 6,
     SKULDREFN_WRONG_EP4TA = 7,
-    SKULDREFN_NOT_COVERED = 8,   /* the record does not cover the address */
-    SKULDREFN_SPARED = 9,        /* the record is spared as global */
+    SKULDREFN_NOT_COVERING = 8,  /* the record does not cover the address */
+    SKULDREFN_SPARED_AS_GLOBAL = 9,
     SKULDREFN_IN_SCOPE = 10      /* the step drops the record */
 };
 

@@ -1,3 +1,6 @@
+-- Document 02, Ask 1: the reasons; and, apart from these definitions, the laws about them.
 pub mod Reasons
-pub mod Answers
-pub mod Scopes
+pub mod Refusals
+pub mod FirstReason
+pub mod EventScopes
+pub mod Dropped

@@ -20,23 +20,23 @@ use Rattle.model.specs.Scopes.{vpid-tagged, vpid-named, ep4ta-of, is-current-ep
 use Rattle.model.specs.Answers.{first, answer}
 use Rattle.reasons.specs.declared.Reason.{Reason}
 use Rattle.reasons.specs.declared.Reason.the-variants.{Refused, NoScope, NotCanonical, WrongKind, WrongVpid, WrongPcid, WrongEp4ta, NotCovering, SparedAsGlobal, InScope}
-use Rattle.reasons.specs.declared.Misses.{Misses}
+use Rattle.reasons.specs.declared.Failed.{Failed}
 
 -- every mapping is in scope
-abbrev pub none : Misses
+abbrev pub none : Failed
 none =
-    record { scope = false; address = false; kind = false; vpid = false; pcid = false; ep4ta = false; page = false; global = false }
+    record { unscoped = false; address = false; kind = false; vpid = false; pcid = false; ep4ta = false; page = false; global = false }
 
 -- "event without a scope"
-abbrev pub unscoped : Misses
+abbrev pub unscoped : Failed
 unscoped =
-    record { scope = true; address = false; kind = false; vpid = false; pcid = false; ep4ta = false; page = false; global = false }
+    record { unscoped = true; address = false; kind = false; vpid = false; pcid = false; ep4ta = false; page = false; global = false }
 
 -- INVVPID tests kind and VPID, type 0 the page, type 3 the global mark; type 2 takes "every VPID but 0"
-unfoldable pub invvpid-misses : Operands → Mapping → Misses
-invvpid-misses o m =
+unfoldable pub invvpid-failed : Operands → Mapping → Failed
+invvpid-failed o m =
     record {
-      scope = false;
+      unscoped = false;
       address = false;
       kind = not (vpid-tagged m);
       vpid = (eqb (o .«type_number») 2 && eqb (m .vpid) 0) || (not (eqb (o .«type_number») 2) && not (eqb (m .vpid) (vpid-named o)));
@@ -47,10 +47,10 @@ invvpid-misses o m =
     }
 
 -- INVEPT tests the kind, and type 1 the EP4TA
-unfoldable pub invept-misses : Operands → Mapping → Misses
-invept-misses o m =
+unfoldable pub invept-failed : Operands → Mapping → Failed
+invept-failed o m =
     record {
-      scope = false;
+      unscoped = false;
       address = false;
       kind = not (guest-physical (m .kind) || combined (m .kind));
       vpid = false;
@@ -62,10 +62,10 @@ invept-misses o m =
 
 -- INVLPG tests its own address, and of the mapping kind and VPID, the PCID but of global translations, and
 -- the page of translations alone (Ask 2)
-unfoldable pub invlpg-misses : Context → ℕ → Mapping → Misses
-invlpg-misses c address m =
+unfoldable pub invlpg-failed : Context → ℕ → Mapping → Failed
+invlpg-failed c address m =
     record {
-      scope = false;
+      unscoped = false;
       address = not (canonical address);
       kind = not (vpid-tagged m);
       vpid = not (eqb (m .vpid) (current-vpid (c .place)));
@@ -77,10 +77,10 @@ invlpg-misses c address m =
 
 -- An EPT violation tests kind, EP4TA and page, and of kinds 3 and 6 VPID and PCID too; "wrong kind (for
 -- an EPT violation with linear flag 0, kinds 3 and 6 too)"
-unfoldable pub violation-misses : Context → Violation → Mapping → Misses
-violation-misses c v m =
+unfoldable pub violation-failed : Context → Violation → Mapping → Failed
+violation-failed c v m =
     record {
-      scope = false;
+      unscoped = false;
       address = false;
       kind = not (guest-physical (m .kind) || (eqb (v .flag) 1 && combined (m .kind)));
       vpid = combined (m .kind) && not (eqb (m .vpid) (current-vpid (c .place)));
@@ -91,10 +91,10 @@ violation-misses c v m =
     }
 
 -- a VM entry or VM exit has no scope with VPIDs enabled; else it tests the kind, and the VPID for 0
-unfoldable pub transition-misses : Bool → Mapping → Misses
-transition-misses enabled m =
+unfoldable pub transition-failed : Bool → Mapping → Failed
+transition-failed enabled m =
     record {
-      scope = enabled;
+      unscoped = enabled;
       address = false;
       kind = not (vpid-tagged m);
       vpid = not (eqb (m .vpid) 0);
@@ -104,25 +104,25 @@ transition-misses enabled m =
       global = false;
     }
 
--- which reasons hold, by event; "event without a scope (creations, kinds 22 to 24, entry or exit with
--- VPIDs enabled)"
-abbrev pub misses : Context → Event → Mapping → Misses
-misses c (Creation created) m = unscoped
-misses c (Invvpid o) m = invvpid-misses o m
-misses c (Invept o) m = invept-misses o m
-misses c (Invlpg address) m = invlpg-misses c address m
-misses c (EptViolation v) m = violation-misses c v m
-misses c (Entry n) m = transition-misses (eqb (n .vpids) 1) m
-misses c (Exit pcid) m = transition-misses (not (eqb (current-vpid (c .place)) 0)) m
-misses c Vmxon m = unscoped
-misses c Vmxoff m = unscoped
-misses c (NewPcid n) m = unscoped
-misses c Reset m = none
+-- the tests that fail, by event; those behind the first are not asked, so that a wrong kind may have any.
+-- "event without a scope (creations, kinds 22 to 24, entry or exit with VPIDs enabled)"
+abbrev pub failed : Context → Event → Mapping → Failed
+failed c (Creation created) m = unscoped
+failed c (Invvpid o) m = invvpid-failed o m
+failed c (Invept o) m = invept-failed o m
+failed c (Invlpg address) m = invlpg-failed c address m
+failed c (EptViolation v) m = violation-failed c v m
+failed c (Entry n) m = transition-failed (eqb (n .vpids) 1) m
+failed c (Exit pcid) m = transition-failed (not (eqb (current-vpid (c .place)) 0)) m
+failed c Vmxon m = unscoped
+failed c Vmxoff m = unscoped
+failed c (NewPcid n) m = unscoped
+failed c Reset m = none
 
 -- "The named reason must hold, no earlier one may": the paper's order, from "event without a scope" on
-abbrev pub first-reason : Misses → Reason
+abbrev pub first-reason : Failed → Reason
 first-reason m =
-    cond (m .scope) NoScope
+    cond (m .unscoped) NoScope
     (cond (m .address) NotCanonical
     (cond (m .kind) WrongKind
     (cond (m .vpid) WrongVpid
@@ -143,7 +143,7 @@ explained-answer c r e = cond (one-record r) (answer c r e limit) (first ((1, no
 -- why the event e drops the record r or leaves it
 unfoldable pub explanation : Context → List ℕ → List ℕ → Reason
 explanation c r e =
-    cond (eqb (explained-answer c r e) 0) (first-reason (misses c (event e) (mapping r))) (Refused (explained-answer c r e))
+    cond (eqb (explained-answer c r e) 0) (first-reason (failed c (event e) (mapping r))) (Refused (explained-answer c r e))
 
 -- the reasons' numbers, from 1 in the paper's order, and the answer that a refusal carries, else 0
 abbrev pub reason-number : Reason → ℕ

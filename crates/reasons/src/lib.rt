@@ -9,7 +9,7 @@ use model::Violation;
 ghost use mathlib.Core.Bool.{cond};
 ghost use mathlib.Core.Path.{_≡_};
 ghost use Rattle.model.specs.Mappings.{linear, guest-physical, combined, global-translation};
-ghost use Rattle.reasons.specs.Reasons.{none, unscoped, invvpid-misses, invept-misses, invlpg-misses, violation-misses, transition-misses, misses, first-reason, explanation, reason-number, reason-answer};
+ghost use Rattle.reasons.specs.Reasons.{none, unscoped, invvpid-failed, invept-failed, invlpg-failed, violation-failed, transition-failed, failed, first-reason, explanation, reason-number, reason-answer};
 
 // The reasons, in the order in which they are tried. A refused step carries its answer.
 pub enum Reason {
@@ -25,10 +25,11 @@ pub enum Reason {
     InScope,
 }
 
-// Whether a mapping misses an event's scope: the event has none, INVLPG's address is not canonical, or the
-// mapping's kind, VPID, PCID, EP4TA, page or global mark is not one that the event takes.
-pub struct Misses {
-    pub scope: bool,
+// Which tests fail: the event has no scope, INVLPG's address is not canonical, or the
+// mapping's kind, VPID, PCID, EP4TA, page or global mark is not one that the event takes. Those behind the
+// first are not asked, so that they may say anything.
+pub struct Failed {
+    pub unscoped: bool,
     pub address: bool,
     pub kind: bool,
     pub vpid: bool,
@@ -38,12 +39,12 @@ pub struct Misses {
     pub global: bool,
 }
 
-// Nothing is missed: every mapping is in scope.
-fn no_misses() -> Misses
+// No test fails: every mapping is in scope.
+fn none_failed() -> Failed
     ensures { λ r. ⌜ r ≡ none ⌝ }
 {
-    Misses {
-        scope: false,
+    Failed {
+        unscoped: false,
         address: false,
         kind: false,
         vpid: false,
@@ -55,11 +56,11 @@ fn no_misses() -> Misses
 }
 
 // The event has no scope.
-fn no_scope() -> Misses
+fn no_scope() -> Failed
     ensures { λ r. ⌜ r ≡ unscoped ⌝ }
 {
-    Misses {
-        scope: true,
+    Failed {
+        unscoped: true,
         address: false,
         kind: false,
         vpid: false,
@@ -98,17 +99,17 @@ fn is_global_translation(m: Mapping) -> bool
     ((m.kind == 1) | (m.kind == 3)) & (m.global == 1)
 }
 
-// How a mapping misses an INVVPID.
-fn invvpid_misses(o: Operands, m: Mapping) -> Misses
-    ensures { λ r. ⌜ r ≡ invvpid-misses o m ⌝ }
+// The tests of an INVVPID that fail for a mapping.
+fn invvpid_failed(o: Operands, m: Mapping) -> Failed
+    ensures { λ r. ⌜ r ≡ invvpid-failed o m ⌝ }
 {
     let type_number = o.type_number;
     let named = o.low % 65536;
     let kind = !(is_linear(m.kind) | is_combined(m.kind));
     let global = is_global_translation(m);
     let covered = addresses::is_covered(m.span, m.page, addresses::page(o.high));
-    Misses {
-        scope: false,
+    Failed {
+        unscoped: false,
         address: false,
         kind,
         vpid: ((type_number == 2) & (m.vpid == 0)) | (!(type_number == 2) & !(m.vpid == named)),
@@ -119,14 +120,14 @@ fn invvpid_misses(o: Operands, m: Mapping) -> Misses
     }
 }
 
-// How a mapping misses an INVEPT.
-fn invept_misses(o: Operands, m: Mapping) -> Misses
-    ensures { λ r. ⌜ r ≡ invept-misses o m ⌝ }
+// The tests of an INVEPT that fail for a mapping.
+fn invept_failed(o: Operands, m: Mapping) -> Failed
+    ensures { λ r. ⌜ r ≡ invept-failed o m ⌝ }
 {
     let named = (o.low >> 12) % 1099511627776;
     let kind = !(is_guest_physical(m.kind) | is_combined(m.kind));
-    Misses {
-        scope: false,
+    Failed {
+        unscoped: false,
         address: false,
         kind,
         vpid: false,
@@ -137,9 +138,9 @@ fn invept_misses(o: Operands, m: Mapping) -> Misses
     }
 }
 
-// How a mapping misses an INVLPG.
-fn invlpg_misses(c: Context, address: u64, m: Mapping) -> Misses
-    ensures { λ r. ⌜ r ≡ invlpg-misses c address m ⌝ }
+// The tests of an INVLPG that fail for a mapping.
+fn invlpg_failed(c: Context, address: u64, m: Mapping) -> Failed
+    ensures { λ r. ⌜ r ≡ invlpg-failed c address m ⌝ }
 {
     let place = c.place;
     let vpid = contexts::vpid(place);
@@ -147,8 +148,8 @@ fn invlpg_misses(c: Context, address: u64, m: Mapping) -> Misses
     let kind = !(is_linear(m.kind) | is_combined(m.kind));
     let global = is_global_translation(m);
     let covered = addresses::is_covered(m.span, m.page, addresses::page(address));
-    Misses {
-        scope: false,
+    Failed {
+        unscoped: false,
         address: !canonical,
         kind,
         vpid: !(m.vpid == vpid),
@@ -166,10 +167,10 @@ fn either(test: bool, first: u64, second: u64) -> u64
     if test { first } else { second }
 }
 
-// How a mapping misses an EPT violation. A guest-physical mapping is asked its EP4TA and the
+// The tests of an EPT violation that fail for a mapping. A guest-physical mapping is asked its EP4TA and the
 // guest-physical page, a combined one all its tags and the linear page.
-fn violation_misses(c: Context, v: Violation, m: Mapping) -> Misses
-    ensures { λ r. ⌜ r ≡ violation-misses c v m ⌝ }
+fn violation_failed(c: Context, v: Violation, m: Mapping) -> Failed
+    ensures { λ r. ⌜ r ≡ violation-failed c v m ⌝ }
 {
     let place = c.place;
     let vpid = contexts::vpid(place);
@@ -179,8 +180,8 @@ fn violation_misses(c: Context, v: Violation, m: Mapping) -> Misses
     let combined = is_combined(m.kind);
     let address = either(combined, v.linear, v.physical);
     let covered = addresses::is_covered(m.span, m.page, addresses::page(address));
-    Misses {
-        scope: false,
+    Failed {
+        unscoped: false,
         address: false,
         kind: !(guest_physical | ((v.flag == 1) & combined)),
         vpid: combined & !(m.vpid == vpid),
@@ -191,13 +192,13 @@ fn violation_misses(c: Context, v: Violation, m: Mapping) -> Misses
     }
 }
 
-// How a mapping misses a VM entry or VM exit of a guest with VPIDs enabled or not.
-fn transition_misses(enabled: bool, m: Mapping) -> Misses
-    ensures { λ r. ⌜ r ≡ transition-misses enabled m ⌝ }
+// The tests of a VM entry or VM exit, of a guest with VPIDs enabled or not, that fail for a mapping.
+fn transition_failed(enabled: bool, m: Mapping) -> Failed
+    ensures { λ r. ⌜ r ≡ transition-failed enabled m ⌝ }
 {
     let kind = !(is_linear(m.kind) | is_combined(m.kind));
-    Misses {
-        scope: enabled,
+    Failed {
+        unscoped: enabled,
         address: false,
         kind,
         vpid: !(m.vpid == 0),
@@ -208,32 +209,32 @@ fn transition_misses(enabled: bool, m: Mapping) -> Misses
     }
 }
 
-// How a mapping misses the event's scope, judged in the context.
-fn event_misses(c: Context, e: Event, m: Mapping) -> Misses
-    ensures { λ r. ⌜ r ≡ misses c e m ⌝ }
+// The tests of the event that fail for a mapping, judged in the context.
+fn event_failed(c: Context, e: Event, m: Mapping) -> Failed
+    ensures { λ r. ⌜ r ≡ failed c e m ⌝ }
 {
     let place = c.place;
     let vpid = contexts::vpid(place);
     match e {
         Event::Creation(_) => no_scope(),
-        Event::Invvpid(o) => invvpid_misses(o, m),
-        Event::Invept(o) => invept_misses(o, m),
-        Event::Invlpg(address) => invlpg_misses(c, address, m),
-        Event::EptViolation(v) => violation_misses(c, v, m),
-        Event::Entry(n) => transition_misses(n.vpids == 1, m),
-        Event::Exit(_) => transition_misses(!(vpid == 0), m),
+        Event::Invvpid(o) => invvpid_failed(o, m),
+        Event::Invept(o) => invept_failed(o, m),
+        Event::Invlpg(address) => invlpg_failed(c, address, m),
+        Event::EptViolation(v) => violation_failed(c, v, m),
+        Event::Entry(n) => transition_failed(n.vpids == 1, m),
+        Event::Exit(_) => transition_failed(!(vpid == 0), m),
         Event::Vmxon => no_scope(),
         Event::Vmxoff => no_scope(),
         Event::NewPcid(_) => no_scope(),
-        Event::Reset => no_misses(),
+        Event::Reset => none_failed(),
     }
 }
 
 // The first reason that holds; the mapping is in scope where none does.
-fn first_reason(m: Misses) -> Reason
+fn first_reason(m: Failed) -> Reason
     ensures { λ r. ⌜ r ≡ first-reason m ⌝ }
 {
-    if m.scope {
+    if m.unscoped {
         return Reason::NoScope;
     }
     if m.address {
@@ -281,7 +282,7 @@ pub fn explain(c: Context, bytes: &[u8], event: &[u8]) -> Reason
     if answer != 0 {
         return Reason::Refused(answer);
     }
-    first_reason(event_misses(c, e, m))
+    first_reason(event_failed(c, e, m))
 }
 
 // The reason's number, from 1 in the order in which they are tried.

@@ -62,7 +62,8 @@ fn place_of(c: FlatContext) -> Place
     })
 }
 
-// The context that the numbers stand for. Those that stand for nothing are read as a guest without EPT.
+// The context that the numbers stand for. A place above 1 is read as a guest, an EPT number other than 1 as
+// off.
 pub fn context_of(c: FlatContext) -> Context
     ensures { λ r. ⌜ r ≡ unflatten c ⌝ }
 {

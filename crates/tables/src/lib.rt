@@ -3,7 +3,7 @@ use model::Context;
 ghost use mathlib.Core.Path.{_≡_};
 ghost use Rattle.model.specs.Answers.{first, table-grounds};
 ghost use Rattle.tables.specs.Walk.{Tells};
-ghost use Rattle.tables.specs.Judged.{Judges};
+ghost use Rattle.tables.specs.Judged.{judged-records};
 
 // What a walk over a table passed: bytes, and records.
 struct Passed {
@@ -11,7 +11,7 @@ struct Passed {
     records: usize,
 }
 
-// The answer to a context and a table, and how many records the table has, 0 where the answer is not 0.
+// The answer to a context and a table, and how many records the table has.
 pub struct Judged {
     pub answer: u64,
     pub records: usize,
@@ -38,7 +38,7 @@ fn walk(table: &[u8]) -> Passed
 // The answer that a context and a table alone give: 1, 2 or 3, else 0; and the number of records, 0 where
 // the answer is not 0.
 pub fn judge(c: Context, table: &[u8]) -> Judged
-    ensures { λ r. ⌜ Judges c (now (table .entry)) (r .answer) (r .records) ⌝ }
+    ensures { λ r. ⌜ (r .answer ≡ first (table-grounds c (now (table .entry)))) × (r .records ≡ judged-records c (now (table .entry))) ⌝ }
 {
     if !contexts::is_in_range(c) {
         return Judged {

@@ -86,8 +86,8 @@ impl FlatReason {
             (5, 0) => Reason::WrongVpid,
             (6, 0) => Reason::WrongPcid,
             (7, 0) => Reason::WrongEp4ta,
-            (8, 0) => Reason::NotCovered,
-            (9, 0) => Reason::Spared,
+            (8, 0) => Reason::NotCovering,
+            (9, 0) => Reason::SparedAsGlobal,
             (10, 0) => Reason::InScope,
             _ => return None,
         })

@@ -103,8 +103,8 @@ fn the_header_names_every_reason() {
         ("WRONG_VPID", Reason::WrongVpid),
         ("WRONG_PCID", Reason::WrongPcid),
         ("WRONG_EP4TA", Reason::WrongEp4ta),
-        ("NOT_COVERED", Reason::NotCovered),
-        ("SPARED", Reason::Spared),
+        ("NOT_COVERING", Reason::NotCovering),
+        ("SPARED_AS_GLOBAL", Reason::SparedAsGlobal),
         ("IN_SCOPE", Reason::InScope),
     ] {
         let line = format!("    SKULDREFN_{name} = {}", reason.number());

@@ -92,7 +92,7 @@ fn reasons() {
     assert_eq!(explain(&A), Reason::NoScope);
     let invlpg = |address: u64| [&[18], &address.to_le_bytes()[..]].concat();
     assert_eq!(explain(&invlpg(0x1234_5678)), Reason::InScope);
-    assert_eq!(explain(&invlpg(0x1234_6000)), Reason::NotCovered);
+    assert_eq!(explain(&invlpg(0x1234_6000)), Reason::NotCovering);
     assert_eq!(explain(&invlpg(1 << 47)), Reason::NotCanonical);
     let elsewhere = bridge::explain(&Context::program(), &A, &invlpg(0x1234_5678));
     assert_eq!(elsewhere, Reason::WrongVpid);

@@ -24,9 +24,9 @@ pub enum Reason {
     WrongPcid,
     WrongEp4ta,
     /// The record does not cover the address.
-    NotCovered,
-    /// Spared as global.
-    Spared,
+    NotCovering,
+    /// SparedAsGlobal as global.
+    SparedAsGlobal,
     InScope,
 }
 
@@ -41,8 +41,8 @@ impl Reason {
             Reason::WrongVpid => 5,
             Reason::WrongPcid => 6,
             Reason::WrongEp4ta => 7,
-            Reason::NotCovered => 8,
-            Reason::Spared => 9,
+            Reason::NotCovering => 8,
+            Reason::SparedAsGlobal => 9,
             Reason::InScope => 10,
         }
     }
@@ -94,9 +94,9 @@ fn of_accepted(context: &Context, mapping: &Mapping, event: &Event) -> Reason {
     } else if wrong_ep4ta(context, event, mapping) {
         Reason::WrongEp4ta
     } else if not_covered(event, mapping) {
-        Reason::NotCovered
+        Reason::NotCovering
     } else if spared(event, mapping) {
-        Reason::Spared
+        Reason::SparedAsGlobal
     } else {
         Reason::InScope
     }

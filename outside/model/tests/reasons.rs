@@ -55,8 +55,8 @@ fn the_numbers_are_the_papers_order() {
         WrongVpid,
         WrongPcid,
         WrongEp4ta,
-        NotCovered,
-        Spared,
+        NotCovering,
+        SparedAsGlobal,
         InScope,
     ];
     for (number, reason) in (1..).zip(order) {
@@ -213,7 +213,7 @@ fn invlpg_in_order() {
     // Structure caches go whatever they cover (Ask 2).
     assert_eq!(
         each(&own_pcid),
-        [NotCovered, WrongKind, NotCovered, InScope, WrongKind, InScope]
+        [NotCovering, WrongKind, NotCovering, InScope, WrongKind, InScope]
     );
     // Any EP4TA, with EPT off too.
     let covers = |m: &mut M| m.ep4ta = 9;
@@ -237,7 +237,7 @@ fn invlpg_and_globals() {
         other_pcid(m);
         m.page = FAR >> 12;
     };
-    assert_eq!(of(&guest(5, None), &event, 1, far), NotCovered);
+    assert_eq!(of(&guest(5, None), &event, 1, far), NotCovering);
     let other_vpid = |m: &mut M| {
         far(m);
         m.vpid = 6;
@@ -258,11 +258,11 @@ fn invlpg_and_the_cover_of_structure_caches() {
         }
     }
     // INVVPID type 0 and an EPT violation do.
-    let kept = [NotCovered, WrongKind, NotCovered];
+    let kept = [NotCovering, WrongKind, NotCovering];
     let by_invvpid = kinds(&root(), &invvpid(0, 5, FAR), |_| ());
     assert_eq!(by_invvpid, [kept, kept].concat()[..]);
     let by_violation = kinds(&ept_guest(), &violation(FAR, 1, FAR), |_| ());
-    let kept = [WrongKind, NotCovered, NotCovered];
+    let kept = [WrongKind, NotCovering, NotCovering];
     assert_eq!(by_violation, [kept, kept].concat()[..]);
 }
 
@@ -302,7 +302,7 @@ fn invvpid_type_0() {
         all_wrong(m);
         m.vpid = 5;
     };
-    assert_eq!(kinds(&root(), &event, far), with(NotCovered));
+    assert_eq!(kinds(&root(), &event, far), with(NotCovering));
     // All PCIDs and EP4TAs, global or not.
     let covers = |m: &mut M| {
         m.pcid = 2;
@@ -348,7 +348,7 @@ fn invvpid_type_3() {
     assert_eq!(kinds(&root(), &event, global(6)), with(WrongVpid));
     assert_eq!(
         kinds(&root(), &event, global(5)),
-        [Spared, WrongKind, Spared, InScope, WrongKind, InScope]
+        [SparedAsGlobal, WrongKind, SparedAsGlobal, InScope, WrongKind, InScope]
     );
     assert_eq!(kinds(&root(), &event, |_| ()), with(InScope));
 }
@@ -398,7 +398,7 @@ fn violation_in_order() {
         own_pcid(m);
         m.ep4ta = EP4TA;
     };
-    assert_eq!(each(&own_ep4ta), with(NotCovered, NotCovered));
+    assert_eq!(each(&own_ep4ta), with(NotCovering, NotCovering));
     assert_eq!(each(&|_| ()), with(InScope, InScope));
 }
 
@@ -408,12 +408,12 @@ fn violation_by_its_two_addresses() {
     let linear_elsewhere = violation(0, 1, FAR);
     assert_eq!(
         kinds(&context, &linear_elsewhere, |_| ()),
-        [WrongKind, InScope, NotCovered, WrongKind, InScope, NotCovered]
+        [WrongKind, InScope, NotCovering, WrongKind, InScope, NotCovering]
     );
     let guest_elsewhere = violation(FAR, 1, 0);
     assert_eq!(
         kinds(&context, &guest_elsewhere, |_| ()),
-        [WrongKind, NotCovered, InScope, WrongKind, NotCovered, InScope]
+        [WrongKind, NotCovering, InScope, WrongKind, NotCovering, InScope]
     );
 }
 

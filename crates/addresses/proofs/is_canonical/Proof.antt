@@ -1,10 +1,7 @@
 use borrow.Author.Needs.{needs}
 use Rattle.addresses.proofs.is_canonical.Statement.{statement}
 use Rattle.addresses.proofs.is_canonical.Tie as tie
-use Rattle.addresses.proofs.is_canonical.Reads as reads
-use Rattle.addresses.proofs.is_canonical.Lts as lts
 
--- src/lib.rt:8:1
 returns : tie.Need-returns
 unfolding Rattle.model.specs.Events.canonical
 returns c = search needs

@@ -7,8 +7,6 @@ use native.Mathlib.Omega.{arith}
 use lib.Pow.{pow-mono}
 use Rattle.addresses.proofs.is_covered.Statement.{statement}
 use Rattle.addresses.proofs.is_covered.Tie as tie
-use Rattle.addresses.proofs.is_covered.Reads as reads
-use Rattle.addresses.proofs.is_covered.Lts as lts
 
 -- a 64-bit page has quotient 0 by the pages of a span of 8 or more
 quotient-zero : (p span : ℕ) → p < 2 ^ 64 → 8 ≤ span → p / 2 ^ (9 * span) ≡ 0
@@ -21,19 +19,15 @@ returns c =
     let a = c .before .args in
     sym (eq-eqb _ _ (quotient-zero (a .p) (a .span) (c .before .fits .p .fits) (c .if1 .taken) ∙ sym (quotient-zero (a .page) (a .span) (c .before .fits .page .fits) (c .if1 .taken))))
 
--- src/lib.rt:30:17
 mul-shift : tie.Need-mul-shift
 mul-shift c = search needs
 
--- src/lib.rt:31:6
 shr-result : tie.Need-shr-result
 shr-result c = search needs
 
--- src/lib.rt:31:22
 shr-result-2 : tie.Need-shr-result-2
 shr-result-2 c = search needs
 
--- src/lib.rt:24:1
 returns-2 : tie.Need-returns-2
 unfolding Rattle.model.specs.Mappings.covers
 returns-2 c = refl

@@ -1,22 +1,16 @@
 use borrow.Author.Needs.{needs}
 use Rattle.contexts.proofs.is_current_ep4ta.Statement.{statement}
 use Rattle.contexts.proofs.is_current_ep4ta.Tie as tie
-use Rattle.contexts.proofs.is_current_ep4ta.Reads as reads
-use Rattle.contexts.proofs.is_current_ep4ta.Lts as lts
 
--- src/lib.rt:112:21
 enum-told : tie.Need-enum-told
 enum-told c = search needs
 
--- src/lib.rt:113:17
 enum-known-ept : tie.Need-enum-known-ept
 enum-known-ept c = search needs
 
--- src/lib.rt:108:1
 returns : tie.Need-returns
 returns c = search needs
 
--- src/lib.rt:108:1
 returns-2 : tie.Need-returns-2
 returns-2 c = rw (c .before .ept .given .1)
 

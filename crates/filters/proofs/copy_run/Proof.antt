@@ -4,47 +4,34 @@ use denote.Ref.{now}
 use Rattle.filters.proofs.Runs.{length-run, put-run}
 use Rattle.filters.proofs.copy_run.Statement.{statement}
 use Rattle.filters.proofs.copy_run.Tie as tie
-use Rattle.filters.proofs.copy_run.Reads as reads
-use Rattle.filters.proofs.copy_run.Lts as lts
-use Rattle.bytes.proofs.copy.Reads as copy-reads
 
--- src/lib.rt:36:22
 sub-copy : tie.Need-sub-copy
 sub-copy c = search needs
 
--- src/lib.rt:36:22
 part-copy-start : tie.Need-part-copy-start
 part-copy-start c = search needs
 
--- src/lib.rt:36:22
 part-copy-end : tie.Need-part-copy-end
 part-copy-end c = search needs
 
--- src/lib.rt:36:40
 sub-copy-2 : tie.Need-sub-copy-2
 sub-copy-2 c = search needs
 
--- src/lib.rt:36:40
 part-copy-start-2 : tie.Need-part-copy-start-2
 part-copy-start-2 c = search needs
 
--- src/lib.rt:36:40
 part-copy-end-2 : tie.Need-part-copy-end-2
 part-copy-end-2 c = search needs
 
--- src/lib.rt:36:10
 copy-requires : tie.Need-copy-requires
 copy-requires c κs = search needs
 
--- src/lib.rt:36:5
 add-result : tie.Need-add-result
 add-result c = search needs
 
--- src/lib.rt:29:1
 same-length : tie.Need-same-length
 same-length c = search needs
 
--- src/lib.rt:29:1
 returns : tie.Need-returns
 returns c =
     let a = c .before .before .before .before .before .before .before .args in

@@ -4,31 +4,22 @@ use Rattle.numbers.proofs.Laws.{number-4}
 use native.Mathlib.Omega.{arith}
 use Rattle.numbers.proofs.number4.Statement.{statement}
 use Rattle.numbers.proofs.number4.Tie as tie
-use Rattle.numbers.proofs.number4.Reads as reads
-use Rattle.numbers.proofs.number4.Lts as lts
-use Rattle.numbers.proofs.number2.Reads as number2-reads
 
--- src/lib.rt:35:5
 number2-requires : tie.Need-number2-requires
 number2-requires c κs = search needs
 
--- src/lib.rt:35:41
 add-number2 : tie.Need-add-number2
 add-number2 c = search needs
 
--- src/lib.rt:35:30
 number2-requires-2 : tie.Need-number2-requires-2
 number2-requires-2 c κs = search needs
 
--- src/lib.rt:35:22
 mul-result : tie.Need-mul-result
 mul-result c = search needs
 
--- src/lib.rt:35:5
 add-result : tie.Need-add-result
 add-result c = search needs
 
--- src/lib.rt:31:1
 returns : tie.Need-returns
 returns c = let a = c .before .before .before .args in omega (arith, number-4 (a .at) (now (a .s)))
 

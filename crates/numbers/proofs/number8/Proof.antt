@@ -4,31 +4,22 @@ use Rattle.numbers.proofs.Laws.{number-8}
 use native.Mathlib.Omega.{arith}
 use Rattle.numbers.proofs.number8.Statement.{statement}
 use Rattle.numbers.proofs.number8.Tie as tie
-use Rattle.numbers.proofs.number8.Reads as reads
-use Rattle.numbers.proofs.number8.Lts as lts
-use Rattle.numbers.proofs.number4.Reads as number4-reads
 
--- src/lib.rt:51:5
 number4-requires : tie.Need-number4-requires
 number4-requires c κs = search needs
 
--- src/lib.rt:51:46
 add-number4 : tie.Need-add-number4
 add-number4 c = search needs
 
--- src/lib.rt:51:35
 number4-requires-2 : tie.Need-number4-requires-2
 number4-requires-2 c κs = search needs
 
--- src/lib.rt:51:22
 mul-result : tie.Need-mul-result
 mul-result c = search needs
 
--- src/lib.rt:51:5
 add-result : tie.Need-add-result
 add-result c = search needs
 
--- src/lib.rt:47:1
 returns : tie.Need-returns
 returns c = let a = c .before .before .before .args in omega (arith, number-8 (a .at) (now (a .s)))
 

@@ -11,8 +11,8 @@ use Rattle.model.specs.Events.{event, valid-event}
 use Rattle.model.specs.Answers.{event-answer}
 use Rattle.laws.specs.Mappings.{starts-reading-record, starts-reading-nothing}
 use Rattle.laws.specs.Events.{valid-event-read, valid-event-invalid}
-use Rattle.reasons.specs.Reasons.{one-record, first-reason, misses}
-use Rattle.reasons.specs.Answers.{one-record-none, one-record-other, one-record-made, explanation-refused, explanation-accepted, explained-out-of-range, explained-no-record, explained-invalid, explained-event, explained-accepted}
+use Rattle.reasons.specs.Reasons.{one-record, first-reason, failed}
+use Rattle.reasons.specs.Refusals.{one-record-none, one-record-other, one-record-made, explanation-refused, explanation-accepted, explained-out-of-range, explained-no-record, explained-invalid, explained-event, explained-accepted}
 use Rattle.reasons.proofs.explain.Statement.{statement}
 use Rattle.reasons.proofs.explain.Tie as tie
 
@@ -80,7 +80,7 @@ returns-6 c =
     let is = c .before .before .before .answer-to-event .ensures ∙ ap (event-answer (a .c)) (valid .1) in
     let accepted = explained-accepted (a .c) (now (a .bytes)) (now (a .event)) fit one (valid .0) (sym is ∙ c .before .before .if3 .left) in
     c .first-reason .ensures
-    ∙ ap first-reason (c .before .event-misses .ensures ∙ ap₂ (misses (a .c)) (valid .1) (made .1 .0))
+    ∙ ap first-reason (c .before .event-failed .ensures ∙ ap₂ (failed (a .c)) (valid .1) (made .1 .0))
     ∙ explanation-accepted (a .c) (now (a .bytes)) (now (a .event)) accepted
 
 pub explain-spec : {M : Type 1} → statement M

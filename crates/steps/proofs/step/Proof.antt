@@ -8,6 +8,7 @@ use Rattle.model.specs.Events.{event}
 use Rattle.model.specs.Answers.{event-answer}
 use Rattle.laws.specs.Answers.{answer-of-table, answer-of-invalid, answer-of-event, answer-of-room}
 use Rattle.laws.specs.Events.{valid-event-read, valid-event-invalid}
+use Rattle.tables.specs.Judged.{judged-records-whole}
 use Rattle.steps.proofs.Laws.{step-refused, step-accepted, room-left}
 use Rattle.steps.proofs.step.Statement.{statement}
 use Rattle.steps.proofs.step.Tie as tie
@@ -24,7 +25,7 @@ returns c =
     let t = now (a .table) in
     let e = now (a .event) in
     let b = now (a .new) in
-    let is = c .before .before .before .judge .ensures .answer in
+    let is = c .before .before .before .judge .ensures .0 in
     let some = c .before .if1 .taken in
     step-refused (a .c) t e b _ (answer-of-table (a .c) t e (length b) (λ z. some (is ∙ z)) ∙ sym is) some _ (c .refused .ensures)
 
@@ -46,7 +47,7 @@ returns-2 c =
     let t = now (a .table) in
     let e = now (a .event) in
     let b = now (a .new) in
-    let none = sym (c .before .before .before .before .before .before .judge .ensures .answer) ∙ c .before .before .before .before .if1 .left in
+    let none = sym (c .before .before .before .before .before .before .judge .ensures .0) ∙ c .before .before .before .before .if1 .left in
     let invalid = valid-event-invalid e (sym (c .before .before .before .read-event .ensures) ∙ c .before .enum-told .given .1) in
     step-refused (a .c) t e b 4 (answer-of-invalid (a .c) t e (length b) none invalid) (λ z. omega arith) _ (c .refused2 .ensures)
 
@@ -67,7 +68,7 @@ returns-3 c =
     let t = now (a .table) in
     let e = now (a .event) in
     let b = now (a .new) in
-    let none = sym (c .before .before .before .before .before .before .before .before .before .judge .ensures .answer) ∙ c .before .before .before .before .before .before .before .if1 .left in
+    let none = sym (c .before .before .before .before .before .before .before .before .before .judge .ensures .0) ∙ c .before .before .before .before .before .before .before .if1 .left in
     let read = valid (c .before .before .before) in
     let is = c .before .before .answer-to-event .ensures ∙ ap (event-answer (a .c)) (read .1) in
     let some = c .before .if2 .taken in
@@ -85,7 +86,7 @@ returns-4 c =
     let t = now (a .table) in
     let e = now (a .event) in
     let b = now (a .new) in
-    let none = sym (c .before .before .before .before .before .before .before .before .before .before .before .judge .ensures .answer) ∙ c .before .before .before .before .before .before .before .before .before .if1 .left in
+    let none = sym (c .before .before .before .before .before .before .before .before .before .before .before .judge .ensures .0) ∙ c .before .before .before .before .before .before .before .before .before .if1 .left in
     let read = valid (c .before .before .before .before .before) in
     let no-event = sym (c .before .before .before .before .answer-to-event .ensures ∙ ap (event-answer (a .c)) (read .1)) ∙ c .before .before .before .if2 .left in
     let full = sym (c .before .before .is-without-room .ensures) ∙ c .before .if3 .taken in
@@ -94,10 +95,10 @@ returns-4 c =
 perform-requires : tie.Need-perform-requires
 perform-requires c κs =
     let a = c .before .before .before .before .before .before .before .before .before .before .before .before .before .before .before .args in
-    let none = sym (c .before .before .before .before .before .before .before .before .before .before .before .judge .ensures .answer) ∙ c .before .before .before .before .before .before .before .before .before .if1 .left in
+    let none = sym (c .before .before .before .before .before .before .before .before .before .before .before .judge .ensures .0) ∙ c .before .before .before .before .before .before .before .before .before .if1 .left in
     let free = sym (c .before .before .is-without-room .ensures) ∙ c .before .if3 .left in
     let left = room-left (a .c) (now (a .table)) (now (a .event)) (now (a .new)) none free in
-    let counted = c .before .before .before .before .before .before .before .before .before .before .before .judge .ensures .records (c .before .before .before .before .before .before .before .before .before .if1 .left) in
+    let counted = c .before .before .before .before .before .before .before .before .before .before .before .judge .ensures .1 ∙ judged-records-whole (a .c) (now (a .table)) none in
     (valid (c .before .before .before .before .before) .1, (left .0, (counted, left .1)))
 
 same-length : tie.Need-same-length
@@ -109,7 +110,7 @@ returns-5 c =
     let t = now (a .table) in
     let e = now (a .event) in
     let b = now (a .new) in
-    let none = sym (c .before .before .before .before .before .before .before .before .before .before .before .before .before .before .judge .ensures .answer) ∙ c .before .before .before .before .before .before .before .before .before .before .before .before .if1 .left in
+    let none = sym (c .before .before .before .before .before .before .before .before .before .before .before .before .before .before .judge .ensures .0) ∙ c .before .before .before .before .before .before .before .before .before .before .before .before .if1 .left in
     let read = valid (c .before .before .before .before .before .before .before .before) in
     let no-event = sym (c .before .before .before .before .before .before .before .answer-to-event .ensures ∙ ap (event-answer (a .c)) (read .1)) ∙ c .before .before .before .before .before .before .if2 .left in
     let free = sym (c .before .before .before .before .before .is-without-room .ensures) ∙ c .before .before .before .before .if3 .left in

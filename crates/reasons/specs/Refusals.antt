@@ -1,6 +1,6 @@
 -- The refusal that an explanation names, stage by stage, for a table of one record.
 use Prim.Native.Nat.{ℕ, min, _+_, _≤_}
-use mathlib.Core.Bool.{Bool, true, false, cond, not, and-false, and-eq-true-iff}
+use mathlib.Core.Bool.{Bool, true, false, cond, not, and-false, and-eq-true-iff, false≢true}
 use mathlib.Core.List.{List, [], _∷_}
 use mathlib.Core.Path.{_≡_, refl, sym, _∙_}
 use native.Mathlib.Omega.{arith}
@@ -17,9 +17,9 @@ use Rattle.laws.specs.Layouts.{length-of-mapping-le}
 use Rattle.laws.specs.Mappings.{Valid, valid-made, starts-parts}
 use Rattle.laws.specs.Tables.{whole-one}
 use Rattle.laws.specs.Events.{valid-event-parts}
-use Rattle.laws.specs.Answers.{table-grounds-whole, answer-of-table, answer-of-invalid, answer-of-event, answer-of-room}
+use Rattle.laws.specs.Answers.{table-grounds-whole, answer-not-2, answer-no-room, answer-of-table, answer-of-invalid, answer-of-event, answer-of-room}
 use Rattle.reasons.specs.declared.Reason.the-variants.{Refused}
-use Rattle.reasons.specs.Reasons.{one-record, explained-answer, explanation, first-reason, misses}
+use Rattle.reasons.specs.Reasons.{one-record, explained-answer, explanation, first-reason, failed}
 
 -- bytes at whose front a record starts or not, of its length or not
 module _ (r : List ℕ) where
@@ -63,20 +63,23 @@ module _ (c : Context) (r e : List ℕ) where
   unfolding explanation
   explanation-refused n is some = rw (is, ne-eqb n 0 some)
 
-  pub explanation-accepted : explained-answer c r e ≡ 0 → first-reason (misses c (event e) (mapping r)) ≡ explanation c r e
+  pub explanation-accepted : explained-answer c r e ≡ 0 → first-reason (failed c (event e) (mapping r)) ≡ explanation c r e
   unfolding explanation
   explanation-accepted is = rw is
 
   -- 1, whatever the bytes are
+  answer-out-of-range : in-range c ≡ false → answer c r e limit ≡ 1
+  unfolding first table-grounds
+  answer-out-of-range out =
+      let given : first (table-grounds c r) ≡ 1 = rw out in
+      answer-of-table c r e limit (λ none. omega (arith, given, none)) ∙ given
+
   pub explained-out-of-range : in-range c ≡ false → explained-answer c r e ≡ 1
-  unfolding explained-answer first table-grounds
+  unfolding explained-answer first
   explained-out-of-range out = go (one-record r)
     where
-      given : first (table-grounds c r) ≡ 1
-      given = rw out
-
       go : (b : Bool) → cond b (answer c r e limit) (first ((1, not (in-range c)) ∷ (3, true) ∷ [])) ≡ 1
-      go true = answer-of-table c r e limit (λ none. omega (arith, given, none)) ∙ given
+      go true = answer-out-of-range out
       go false = rw out
 
   -- 3, for bytes that are not exactly one valid record
@@ -106,5 +109,33 @@ module _ (c : Context) (r e : List ℕ) where
     room v =
         le-ltb (min limit limit) (length r + length (created e)) (omega (arith, length-one-record r one, length-created e v))
 
+    answer-not-12 : answer c r e limit ≡ 12 → ⊥
+    answer-not-12 h = by-valid (valid-event e) refl
+      where
+        by-valid : (b : Bool) → valid-event e ≡ b → ⊥
+        by-valid true v = false≢true (sym (room v) ∙ answer-no-room c r e limit h)
+        by-valid false v = omega (arith, answer-of-invalid c r e limit table-passes v, h)
+
     pub explained-accepted : valid-event e ≡ true → event-answer c (event e) ≡ 0 → explained-answer c r e ≡ 0
     explained-accepted v none = judged ∙ answer-of-room c r e limit table-passes v none ∙ rw (room v)
+
+  -- 2 and 12 are never named
+  pub explained-not-2 : explained-answer c r e ≡ 2 → ⊥
+  unfolding explained-answer first
+  explained-not-2 h = go (one-record r) (in-range c) refl h
+    where
+      go : (one fit : Bool) → one-record r ≡ one → cond one (answer c r e limit) (cond (not fit) 1 3) ≡ 2 → ⊥
+      go true fit is k =
+          answer-not-2 c r e limit (whole-one r (one-record-valid r is)) (omega (arith, length-one-record r is)) k
+      go false true is k = omega arith
+      go false false is k = omega arith
+
+  pub explained-not-12 : explained-answer c r e ≡ 12 → ⊥
+  unfolding explained-answer first
+  explained-not-12 h = go (one-record r) (in-range c) refl refl h
+    where
+      go : (one fit : Bool) → one-record r ≡ one → in-range c ≡ fit → cond one (answer c r e limit) (cond (not fit) 1 3) ≡ 12 → ⊥
+      go true true is fits k = answer-not-12 fits is k
+      go true false is fits k = omega (arith, answer-out-of-range fits, k)
+      go false true is fits k = omega arith
+      go false false is fits k = omega arith
