@@ -15,7 +15,7 @@ pub fn is_canonical(address: u64) -> bool
 pub fn page(address: u64) -> u64
     ensures { λ r. ⌜ r ≡ page-of address ⌝ }
 {
-    (address >> 12) % 68719476736
+    (address >> 12) % model::PAGE_LIMIT
 }
 
 // A record of this span and page covers the page p. A span of 8 or more has 2^72 pages or more, so

@@ -12,7 +12,7 @@ fn is_ept_in_range(ept: Ept) -> bool
 {
     match ept {
         Ept::Off => true,
-        Ept::On(ep4ta) => ep4ta < 1099511627776,
+        Ept::On(ep4ta) => ep4ta < model::EP4TA_LIMIT,
     }
 }
 
@@ -35,7 +35,11 @@ pub fn is_in_range(c: Context) -> bool
     ensures { λ r. ⌜ r ≡ in-range c ⌝ }
 {
     let place = c.place;
-    (36 <= c.width) & (c.width <= 52) & (c.pcid <= 4095) & (c.cpl <= 3) & is_place_in_range(place)
+    (36 <= c.width)
+        & (c.width <= 52)
+        & (c.pcid <= model::PCID_MAX)
+        & (c.cpl <= 3)
+        & is_place_in_range(place)
 }
 
 // The current VPID: the guest's, and 0 outside and in root.

@@ -71,7 +71,7 @@ fn read_violation(e: &[u8]) -> EventReading
     let physical = numbers::number8(e, 1);
     let flag = numbers::number1(e, 9);
     let linear = numbers::number8(e, 10);
-    if (physical < 281474976710656)
+    if (physical < model::GUEST_PHYSICAL_LIMIT)
         & (flag <= 1)
         & ((flag == 0) | addresses::is_canonical(linear))
     {
@@ -99,7 +99,7 @@ fn read_entry(e: &[u8]) -> EventReading
     let eptp = numbers::number8(e, 5);
     let pcid = numbers::number2(e, 13);
     let cpl = numbers::number1(e, 15);
-    if (vpids <= 1) & (ept <= 1) & (pcid <= 4095) & (cpl <= 3) {
+    if (vpids <= 1) & (ept <= 1) & (pcid <= model::PCID_MAX) & (cpl <= 3) {
         EventReading::Read(Event::Entry(Entry {
             vpids,
             vpid,
@@ -122,7 +122,7 @@ fn read_exit(e: &[u8]) -> EventReading
         return EventReading::Invalid;
     }
     let pcid = numbers::number2(e, 1);
-    if pcid <= 4095 {
+    if pcid <= model::PCID_MAX {
         EventReading::Read(Event::Exit(pcid))
     } else {
         EventReading::Invalid
@@ -139,7 +139,7 @@ fn read_new_pcid(e: &[u8]) -> EventReading
     }
     let pcid = numbers::number2(e, 1);
     let cpl = numbers::number1(e, 3);
-    if (pcid <= 4095) & (cpl <= 3) {
+    if (pcid <= model::PCID_MAX) & (cpl <= 3) {
         EventReading::Read(Event::NewPcid(NewPcid { pcid, cpl }))
     } else {
         EventReading::Invalid

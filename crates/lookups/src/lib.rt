@@ -44,7 +44,7 @@ fn is_usable(c: Context, a: Address, part: &[u8]) -> bool
         }
         Address::GuestPhysical(address) => {
             let kind = mappings::kind(part);
-            (address < 281474976710656)
+            (address < model::GUEST_PHYSICAL_LIMIT)
                 & mappings::is_covering(part, addresses::page(address))
                 & ((kind == 2) | (kind == 5))
                 & contexts::is_current_ep4ta(ept, mappings::ep4ta(part))

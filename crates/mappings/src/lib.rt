@@ -44,7 +44,7 @@ fn is_page(span: u64, page: u64) -> bool
     requires { ⌜ span ≤ 3 ⌝ }
     ensures { λ r. ⌜ r ≡ page-in-range span page ⌝ }
 {
-    (page < 68719476736) & (page % (1 << (9 * span)) == 0)
+    (page < model::PAGE_LIMIT) & (page % (1 << (9 * span)) == 0)
 }
 
 // The kind of the record at the front.
@@ -109,7 +109,7 @@ fn is_in_ranges(part: &[u8]) -> bool
     let pcid = numbers::number2(part, 3);
     let page = page(part);
     (!((kind == 1) | (kind == 3)) | (global <= 1))
-        & (((kind == 2) | (kind == 5)) | (pcid <= 4095))
+        & (((kind == 2) | (kind == 5)) | (pcid <= model::PCID_MAX))
         & is_page(span, page)
 }
 

@@ -1,6 +1,19 @@
 // The values that the definitions of document 01 and the code share. The definitions themselves
 // stand in specs/, in the order of the document.
 
+// The longest table, in bytes.
+pub const TABLE_LIMIT: usize = 45056;
+
+// Guest-physical addresses are below 2^48, linear and guest-physical pages below 2^36.
+pub const GUEST_PHYSICAL_LIMIT: u64 = 281474976710656;
+
+pub const PAGE_LIMIT: u64 = 68719476736;
+
+// EP4TAs are below 2^40, PCIDs at most 4,095.
+pub const EP4TA_LIMIT: u64 = 1099511627776;
+
+pub const PCID_MAX: u64 = 4095;
+
 // Document 01, "Context". Every field takes any number: one out of its range is answered 1.
 pub struct Context {
     // IA32_VMX_EPT_VPID_CAP

@@ -38,7 +38,7 @@ fn is_without_room(room: usize, table: &[u8], e: &[u8]) -> bool
     ensures { λ r. ⌜ r ≡ no-room room (now (table .entry)) (now (e .entry)) ⌝ }
 {
     let needed = table.len() + created_length(e);
-    (room < needed) | (45056 < needed)
+    (room < needed) | (model::TABLE_LIMIT < needed)
 }
 
 // What a refused step reports.

@@ -46,7 +46,7 @@ pub fn judge(c: Context, table: &[u8]) -> Judged
             records: 0,
         };
     }
-    if 45056 < table.len() {
+    if model::TABLE_LIMIT < table.len() {
         return Judged {
             answer: 2,
             records: 0,
