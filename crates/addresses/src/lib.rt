@@ -1,7 +1,8 @@
-// Addresses, their pages, and the cover test.
+// Addresses, their pages, EP4TAs, and the cover test.
 ghost use mathlib.Core.Path.{_≡_};
 ghost use Rattle.model.specs.Mappings.{covers};
 ghost use Rattle.model.specs.Events.{canonical, page-of};
+ghost use Rattle.model.specs.Scopes.{ep4ta-of};
 
 // Bits 63 to 47 of a linear address are all equal.
 pub fn is_canonical(address: u64) -> bool
@@ -16,6 +17,14 @@ pub fn page(address: u64) -> u64
     ensures { λ r. ⌜ r ≡ page-of address ⌝ }
 {
     (address >> 12) % model::PAGE_LIMIT
+}
+
+// The EP4TA of an EPTP: its bits 51 to 12.
+pub fn ep4ta(eptp: u64) -> u64
+    ensures { λ r. ⌜ r ≡ ep4ta-of eptp ⌝ }
+{
+    let above = eptp >> 12;
+    above % model::EP4TA_LIMIT
 }
 
 // A record of this span and page covers the page p. A span of 8 or more has 2^72 pages or more, so

@@ -124,7 +124,7 @@ fn invvpid_failed(o: Operands, m: Mapping) -> Failed
 fn invept_failed(o: Operands, m: Mapping) -> Failed
     ensures { λ r. ⌜ r ≡ invept-failed o m ⌝ }
 {
-    let named = (o.low >> 12) % model::EP4TA_LIMIT;
+    let named = addresses::ep4ta(o.low);
     let kind = !(is_guest_physical(m.kind) | is_combined(m.kind));
     Failed {
         unscoped: false,

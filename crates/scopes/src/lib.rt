@@ -54,7 +54,7 @@ fn is_in_invept_scope(o: Operands, part: &[u8]) -> bool
         return false;
     }
     if o.type_number == 1 {
-        mappings::ep4ta(part) == (o.low >> 12) % model::EP4TA_LIMIT
+        mappings::ep4ta(part) == addresses::ep4ta(o.low)
     } else {
         true
     }

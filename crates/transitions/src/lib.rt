@@ -15,7 +15,7 @@ fn place_entered(n: Entry) -> Place
 {
     let vpid = if n.vpids == 1 { n.vpid } else { 0 };
     let ept = if n.ept == 1 {
-        Ept::On((n.eptp >> 12) % model::EP4TA_LIMIT)
+        Ept::On(addresses::ep4ta(n.eptp))
     } else {
         Ept::Off
     };

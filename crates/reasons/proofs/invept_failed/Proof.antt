@@ -8,11 +8,12 @@ returns c =
     rw (
       c .before .before .is-combined .ensures,
       c .before .before .before .is-guest-physical .ensures,
+      c .before .before .before .before .ep4ta .ensures,
     )
 
 pub invept-failed-spec : {M : Type 1} → statement M
 invept-failed-spec =
     tie.close
     (tie.spec
-    (λ c κs. tt) (λ c κs. tt)
+    (λ c κs. tt) (λ c κs. tt) (λ c κs. tt)
     returns)

@@ -27,6 +27,7 @@ returns-2 c =
       passed (ap (λ k. guest-physical k || combined k) (c1 .before .kind .ensures)) (c1 .if1 .left),
       c .before .before .if2 .taken,
       c .before .ep4ta .ensures,
+      c .ep4ta2 .ensures,
     )
 
 returns-3 : tie.Need-returns-3
@@ -40,4 +41,4 @@ returns-3 c =
 
 pub is-in-invept-scope-spec : {M : Type 1} → statement M
 is-in-invept-scope-spec =
-    tie.close (tie.spec kind-requires returns ep4ta-requires returns-2 returns-3)
+    tie.close (tie.spec kind-requires returns ep4ta-requires (λ c κs. tt) returns-2 returns-3)

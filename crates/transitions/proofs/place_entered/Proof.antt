@@ -16,11 +16,11 @@ vpid-is c =
 
 returns : tie.Need-returns
 unfolding Rattle.model.specs.Scopes.entered
-returns c = rw (vpid-is (c .before .before .before), c .before .if2 .taken)
+returns c = rw (vpid-is (c .before .before .before), c .before .if2 .taken, c .ep4ta .ensures)
 
 returns-2 : tie.Need-returns-2
 unfolding Rattle.model.specs.Scopes.entered
 returns-2 c = rw (vpid-is (c .before .before), ne-eqb _ 1 (c .if2 .left))
 
 pub place-entered-spec : {M : Type 1} → statement M
-place-entered-spec = tie.close (tie.spec returns returns-2)
+place-entered-spec = tie.close (tie.spec (λ c κs. tt) returns returns-2)
