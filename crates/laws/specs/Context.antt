@@ -1,16 +1,15 @@
 -- Contexts: an event of bytes leaves a context in its ranges.
-use Prim.Native.Nat.{ℕ, zero, suc, _≤_, _<_, _/_, _%_, _^_}
+use Prim.Native.Nat.{ℕ, zero, suc, _≤_, _<_, _^_}
 use mathlib.Core.Path.{_≡_, refl}
 use mathlib.Core.Bool.{Bool, true, false, cond, _&&_, and-eq-true-iff}
-use mathlib.Core.List.{List, [], _∷_}
-use native.Mathlib.Nat.{mod-lt}
+use mathlib.Core.List.{List}
 use native.Mathlib.Omega.{arith}
-use lib.Dec.{eqb, leb, ltb}
+use lib.Dec.{eqb, leb}
 use lib.ListN.{getD}
 use borrow.Author.Tests.{eqb-true, le-leb, lt-ltb}
 use Rattle.model.specs.declared.Context.{Context}
 use Rattle.model.specs.declared.Place.{Place}
-use Rattle.model.specs.declared.Place.the-variants.{Outside, Root, Guest}
+use Rattle.model.specs.declared.Place.the-variants.{Outside, Root}
 use Rattle.model.specs.declared.Ept.the-variants.{Off, On}
 use Rattle.model.specs.declared.Entry
 use Rattle.model.specs.declared.Event.{Event}
@@ -61,27 +60,27 @@ unfolding entry field body-of
 vpid-of-entry e bytes is = rw is (omega (arith, getD-bytes bytes 2, getD-bytes bytes 3))
 
 -- a VM entry's VPID has two bytes
-abbrev pub Vpid : Event → Type 0
-Vpid (Creation m) = Unit {0}
-Vpid (Invvpid o) = Unit {0}
-Vpid (Invept o) = Unit {0}
-Vpid (Invlpg address) = Unit {0}
-Vpid (EptViolation v) = Unit {0}
-Vpid (Entry n) = n .vpid ≤ 65535
-Vpid (Exit pcid) = Unit {0}
-Vpid Vmxon = Unit {0}
-Vpid Vmxoff = Unit {0}
-Vpid (NewPcid n) = Unit {0}
-Vpid Reset = Unit {0}
+abbrev pub VpidInRange : Event → Type 0
+VpidInRange (Creation m) = Unit {0}
+VpidInRange (Invvpid o) = Unit {0}
+VpidInRange (Invept o) = Unit {0}
+VpidInRange (Invlpg address) = Unit {0}
+VpidInRange (EptViolation v) = Unit {0}
+VpidInRange (Entry n) = n .vpid ≤ 65535
+VpidInRange (Exit pcid) = Unit {0}
+VpidInRange Vmxon = Unit {0}
+VpidInRange Vmxoff = Unit {0}
+VpidInRange (NewPcid n) = Unit {0}
+VpidInRange Reset = Unit {0}
 
-pub vpid-of-event : (e : List ℕ) → Bytes e → Vpid (event e)
+pub vpid-of-event : (e : List ℕ) → Bytes e → VpidInRange (event e)
 unfolding event
 vpid-of-event e bytes =
     go (mapping-kind (kind-of e)) (eqb (kind-of e) 16) (eqb (kind-of e) 17) (eqb (kind-of e) 18) (eqb (kind-of e) 19)
     (eqb (kind-of e) 20) (eqb (kind-of e) 21) (eqb (kind-of e) 22) (eqb (kind-of e) 23) (eqb (kind-of e) 24) refl
   where
     go : (a b c d f g h i j k : Bool) → eqb (kind-of e) 20 ≡ g
-        → Vpid
+        → VpidInRange
         (cond a (Creation (mapping e))
         (cond b (Invvpid (operands e))
         (cond c (Invept (operands e))
@@ -111,7 +110,7 @@ entered-in-range n small = go (eqb (n .vpids) 1) (eqb (n .ept) 1)
     go false true = lt-ltb (ep4ta-of (n .eptp)) (2 ^ 40) (omega arith)
     go false false = refl
 
-pub next-context-in-range : (c : Context) (e : Event) → Vpid e → event-in-range e ≡ true → in-range c ≡ true → in-range (next-context c e) ≡ true
+pub next-context-in-range : (c : Context) (e : Event) → VpidInRange e → event-in-range e ≡ true → in-range c ≡ true → in-range (next-context c e) ≡ true
 unfolding next-context event-in-range after-reset
 next-context-in-range c (Creation m) v fits h = h
 next-context-in-range c (Invvpid o) v fits h = h

@@ -11,11 +11,11 @@ use Rattle.model.specs.Bits.{number}
 use Rattle.model.specs.Layouts.{Field, Body, field-number, bytes-of, offset-in, width-in, known-in, kind-of, mapping-kind, body-of, length-of, field}
 use Rattle.laws.specs.Lists.{Agree}
 
--- one row of the table of kinds: the kind is the row's, or it is known by the rows after it
-row : (P : ℕ → Type 0) (n k : ℕ) (rest : Bool) → P n → (rest ≡ true → P k) → cond (eqb k n) true rest ≡ true → P k
-row P n k rest p q = go (eqb k n) refl
+-- one row of a table that is read by a number: the number is the row's, or the rows after it have it
+pub row-cases : (P : ℕ → Type 0) (n k : ℕ) (here rest : Bool) → P n → (rest ≡ true → P k) → cond (eqb k n) here rest ≡ true → P k
+row-cases P n k here rest p q = go (eqb k n) refl
   where
-    go : (b : Bool) → eqb k n ≡ b → cond b true rest ≡ true → P k
+    go : (b : Bool) → eqb k n ≡ b → cond b here rest ≡ true → P k
     go true e h = subst P (sym (eqb-true k n e)) p
     go false e h = q h
 
@@ -23,9 +23,10 @@ row P n k rest p q = go (eqb k n) refl
 pub mapping-kind-cases : (P : ℕ → Type 0) → P 1 → P 2 → P 3 → P 4 → P 5 → P 6 → (k : ℕ) → mapping-kind k ≡ true → P k
 unfolding mapping-kind
 mapping-kind-cases P p1 p2 p3 p4 p5 p6 k =
-    row P 1 k _ p1
-    (row P 2 k _ p2
-    (row P 3 k _ p3 (row P 4 k _ p4 (row P 5 k _ p5 (row P 6 k _ p6 (λ e. absurd (false≢true e)))))))
+    row-cases P 1 k _ _ p1
+    (row-cases P 2 k _ _ p2
+    (row-cases P 3 k _ _ p3
+    (row-cases P 4 k _ _ p4 (row-cases P 5 k _ _ p5 (row-cases P 6 k _ _ p6 (λ e. absurd (false≢true e)))))))
 
 -- they are those from 1 to 6
 pub mapping-kind-range : (k : ℕ) → mapping-kind k ≡ (leb 1 k && leb k 6)

@@ -1,10 +1,10 @@
 -- Lists in general: what holds of every element, and the front on which two byte lists agree.
-use Prim.Native.Nat.{ℕ, _≤_, _<_}
+use Prim.Native.Nat.{ℕ, zero, suc, _≤_, _<_}
 use mathlib.Core.Path.{_≡_, refl}
 use mathlib.Core.Bool.{Bool, true, false, cond}
 use mathlib.Core.List.{List, [], _∷_, _++_}
 use native.Mathlib.Omega.{arith}
-use lib.ListN.{length, take, getD, List·getD-append}
+use lib.ListN.{length, take, drop, getD, List·getD-append}
 use lib.Seq.{getD-take}
 
 -- P holds of every element of a list
@@ -29,6 +29,27 @@ every-append-front (x ∷ xs) ys (more p h) = more p (every-append-front xs ys h
 pub every-append-back : {A : Type 0} {P : A → Type 0} (xs ys : List A) → Every P (xs ++ ys) → Every P ys
 every-append-back [] ys h = h
 every-append-back (x ∷ xs) ys (more p h) = every-append-back xs ys h
+
+pub every-take : {A : Type 0} {P : A → Type 0} (n : ℕ) {xs : List A} → Every P xs → Every P (take n xs)
+every-take zero h = none
+every-take (suc n) none = none
+every-take (suc n) (more p h) = more p (every-take n h)
+
+pub every-drop : {A : Type 0} {P : A → Type 0} (n : ℕ) {xs : List A} → Every P xs → Every P (drop n xs)
+every-drop zero h = h
+every-drop (suc n) none = none
+every-drop (suc n) (more p h) = every-drop n h
+
+-- the element at a place: the default past the end
+pub getD-past : {A : Type 0} (xs : List A) (k : ℕ) (d : A) → length xs ≤ k → getD xs k d ≡ d
+getD-past [] k d h = refl
+getD-past (x ∷ xs) zero d h = absurd (omega arith)
+getD-past (x ∷ xs) (suc k) d h = getD-past xs k d (omega arith)
+
+pub getD-every : {A : Type 0} {P : A → Type 0} {xs : List A} (k : ℕ) (d : A) → Every P xs → k < length xs → P (getD xs k d)
+getD-every k d none h = absurd (omega arith)
+getD-every zero d (more p ps) h = p
+getD-every (suc k) d (more p ps) h = getD-every k d ps (omega arith)
 
 -- an element that a test lets in stands before what is put behind
 pub cond-append : {A : Type 0} (b : Bool) (x : A) (xs ys : List A) → cond b (x ∷ (xs ++ ys)) (xs ++ ys) ≡ cond b (x ∷ xs) xs ++ ys

@@ -89,6 +89,14 @@ count-complement p (r ∷ rs) = go (p r) (count-complement p rs)
 pub count-le : (p : List ℕ → Bool) (rs : List (List ℕ)) → count p rs ≤ length rs
 count-le p rs = omega (arith, count-complement p rs)
 
+pub count-one : (p : List ℕ → Bool) (r : List ℕ) → count p (r ∷ []) ≡ cond (p r) 1 0
+unfolding count only
+count-one p r = go (p r)
+  where
+    go : (b : Bool) → length (cond b (r ∷ []) []) ≡ cond b 1 0
+    go true = refl
+    go false = refl
+
 pub length-joined-only : (p : List ℕ → Bool) (rs : List (List ℕ)) → length (joined (only p rs)) ≤ length (joined rs)
 unfolding only
 length-joined-only p [] = le-refl _

@@ -1,30 +1,19 @@
 -- "The part is empty exactly if there is no such record or answers 1, 2 or 3 apply."
-use Prim.Native.Nat.{ℕ, zero, suc, _≤_, _<_}
+use Prim.Native.Nat.{ℕ, _≤_}
 use mathlib.Core.Bool.{Bool, true, false, cond}
-use mathlib.Core.List.{List, [], _∷_}
-use mathlib.Core.Path.{_≡_, refl, sym, ap, _∙_}
+use mathlib.Core.List.{List, []}
+use mathlib.Core.Path.{_≡_, refl, ap}
 use native.Mathlib.Omega.{arith}
-use borrow.Author.Tests.{ltb-true, ltb-false, ne-eqb, eq-eqb}
-use lib.Dec.{ltb}
+use borrow.Author.Tests.{ltb-true, ltb-false, ne-eqb}
+use lib.Dec.{eqb, ltb}
 use lib.ListN.{length, getD}
 use Rattle.model.specs.declared.Context.{Context}
 use Rattle.model.specs.declared.Address.{Address}
 use Rattle.model.specs.Mappings.{mapping}
-use Rattle.model.specs.Tables.{records}
 use Rattle.model.specs.Lookups.{usable, usable-records, lookup-answer, lookup}
-use Rattle.laws.specs.Lists.{Every, none, more}
+use Rattle.laws.specs.Lists.{getD-past, getD-every}
 use Rattle.laws.specs.Mappings.{Valid}
 use Rattle.laws.specs.Tables.{records-valid, every-only}
-
-getD-past : {A : Type 0} (xs : List A) (k : ℕ) (d : A) → length xs ≤ k → getD xs k d ≡ d
-getD-past [] k d h = refl
-getD-past (x ∷ xs) zero d h = absurd (omega arith)
-getD-past (x ∷ xs) (suc k) d h = getD-past xs k d (omega arith)
-
-getD-every : {A : Type 0} {P : A → Type 0} {xs : List A} (k : ℕ) (d : A) → Every P xs → k < length xs → P (getD xs k d)
-getD-every k d none h = absurd (omega arith)
-getD-every zero d (more p ps) h = p
-getD-every (suc k) d (more p ps) h = getD-every k d ps (omega arith)
 
 module _ (c : Context) (a : Address) (t : List ℕ) (k : ℕ) where
   -- it is where an answer applies, or there is no such record
@@ -34,7 +23,7 @@ module _ (c : Context) (a : Address) (t : List ℕ) (k : ℕ) where
 
   pub lookup-past : length (usable-records c a t) ≤ k → lookup c a t k ≡ []
   unfolding lookup
-  lookup-past few = go (lib.Dec.eqb (lookup-answer c t) 0)
+  lookup-past few = go (eqb (lookup-answer c t) 0)
     where
       go : (b : Bool) → cond b (getD (usable-records c a t) k []) [] ≡ []
       go true = getD-past (usable-records c a t) k [] few

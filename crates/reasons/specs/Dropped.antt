@@ -1,20 +1,19 @@
 -- "In scope" is said exactly if the step drops the record.
 use Prim.Native.Nat.{ℕ}
 use mathlib.Core.Bool.{Bool, true, false, cond, not}
-use mathlib.Core.List.{List, [], _∷_}
+use mathlib.Core.List.{List}
 use mathlib.Core.Path.{_≡_, refl, sym, ap, _∙_}
 use native.Mathlib.Omega.{arith}
 use borrow.Author.Tests.{eqb-true, eqb-false}
 use lib.Dec.{eqb}
-use lib.ListN.{length}
 use Rattle.model.specs.declared.Context.{Context}
 use Rattle.model.specs.Context.{in-range}
 use Rattle.model.specs.Mappings.{mapping}
-use Rattle.model.specs.Tables.{limit, only, count}
+use Rattle.model.specs.Tables.{limit}
 use Rattle.model.specs.Events.{event}
 use Rattle.model.specs.Answers.{first, event-answer, answer}
 use Rattle.model.specs.Steps.{dropped-count, stepped}
-use Rattle.laws.specs.Tables.{records-one}
+use Rattle.laws.specs.Tables.{records-one, count-one}
 use Rattle.laws.specs.Answers.{accepted-parts}
 use Rattle.laws.specs.Steps.{stepped-accepted, stepped-refused}
 use Rattle.reasons.specs.declared.Reason.the-variants.{Refused, InScope}
@@ -22,14 +21,6 @@ use Rattle.reasons.specs.Reasons.{failed, first-reason, one-record, expl
 use Rattle.reasons.specs.Refusals.{one-record-valid, explained-event, explanation-accepted}
 use Rattle.reasons.specs.FirstReason.{all-passed, not-in-scope, first-reason-all-passed, all-passed-first-reason}
 use Rattle.reasons.specs.EventScopes.{scope-all-passed}
-
-count-one : (p : List ℕ → Bool) (r : List ℕ) → count p (r ∷ []) ≡ cond (p r) 1 0
-unfolding count only
-count-one p r = go (p r)
-  where
-    go : (b : Bool) → length (cond b (r ∷ []) []) ≡ cond b 1 0
-    go true = refl
-    go false = refl
 
 one-of : (b : Bool) → _≡_ {A = ℕ} (cond b 1 0) 1 → b ≡ true
 one-of true k = refl

@@ -1,7 +1,7 @@
 -- A mapping is in the scope of an accepted event exactly if none of the event's tests fails.
 use Prim.Native.Nat.{ℕ}
 use mathlib.Core.Bool.{Bool, true, false, cond, not, _&&_, _||_, false≢true}
-use mathlib.Core.Path.{_≡_, refl, sym, ap, subst}
+use mathlib.Core.Path.{_≡_, refl, sym, ap}
 use borrow.Author.Tests.{eqb-true}
 use lib.Dec.{eqb}
 use Rattle.model.specs.declared.Context.{Context}
@@ -11,11 +11,12 @@ use Rattle.model.specs.declared.Violation.{Violation}
 use Rattle.model.specs.declared.Event.{Event}
 use Rattle.model.specs.declared.Event.the-variants.{Creation, Invvpid, Invept, Invlpg, EptViolation, Entry, Exit, Vmxon, Vmxoff, NewPcid, Reset}
 use Rattle.model.specs.Context.{current-vpid, current-ept}
-use Rattle.model.specs.Mappings.{mapping, guest-physical, combined, structure-cache, global-translation, covers}
-use Rattle.model.specs.Events.{canonical, page-of, event}
+use Rattle.model.specs.Mappings.{guest-physical, combined, structure-cache, global-translation, covers}
+use Rattle.model.specs.Events.{canonical, page-of}
 use Rattle.model.specs.Scopes.{vpid-tagged, vpid-named, ep4ta-of, is-current-ep4ta, current-pcid-or-global, scope, invvpid-scope, invept-scope, invlpg-scope, guest-physical-violation-scope, combined-violation-scope, transition-scope}
 use Rattle.model.specs.Answers.{event-grounds, event-answer, invalid-operand, invvpid-supported, bad-invvpid}
 use Rattle.laws.specs.Lists.{every-head, every-tail}
+use Rattle.laws.specs.Layouts.{row-cases}
 use Rattle.laws.specs.Answers.{first-zero}
 use Rattle.reasons.specs.Reasons.{invvpid-failed, invept-failed, invlpg-failed, violation-failed, transition-failed, failed}
 use Rattle.reasons.specs.FirstReason.{all-passed}
@@ -59,17 +60,11 @@ type-3 true true page zero false = refl
 type-3 true true page zero true = refl
 
 -- what holds of each type that INVVPID may have holds of a supported one
-type-row : (P : ℕ → Type 0) (n t : ℕ) (x rest : Bool) → P n → (rest ≡ true → P t) → cond (eqb t n) x rest ≡ true → P t
-type-row P n t x rest p q = go (eqb t n) refl
-  where
-    go : (b : Bool) → eqb t n ≡ b → cond b x rest ≡ true → P t
-    go true e h = subst P (sym (eqb-true t n e)) p
-    go false e h = q h
-
 invvpid-supported-cases : (P : ℕ → Type 0) → P 0 → P 1 → P 2 → P 3 → (capability t : ℕ) → invvpid-supported capability t ≡ true → P t
 unfolding invvpid-supported
 invvpid-supported-cases P p0 p1 p2 p3 capability t =
-    type-row P 0 t _ _ p0 (type-row P 1 t _ _ p1 (type-row P 2 t _ _ p2 (type-row P 3 t _ _ p3 (λ e. absurd (false≢true e)))))
+    row-cases P 0 t _ _ p0
+    (row-cases P 1 t _ _ p1 (row-cases P 2 t _ _ p2 (row-cases P 3 t _ _ p3 (λ e. absurd (false≢true e)))))
 
 -- an accepted INVVPID has a supported type
 supported : (b x y z : Bool) → (not b || x || y || z) ≡ false → b ≡ true

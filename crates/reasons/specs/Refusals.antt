@@ -10,7 +10,7 @@ use Rattle.model.specs.declared.Context.{Context}
 use Rattle.model.specs.Context.{in-range}
 use Rattle.model.specs.Layouts.{kind-of, mapping-kind, length-of}
 use Rattle.model.specs.Mappings.{mapping, starts-record}
-use Rattle.model.specs.Tables.{limit, whole}
+use Rattle.model.specs.Tables.{limit}
 use Rattle.model.specs.Events.{event, valid-event}
 use Rattle.model.specs.Answers.{first, created, no-room, table-grounds, event-answer, answer}
 use Rattle.laws.specs.Layouts.{length-of-mapping-le}
@@ -49,9 +49,9 @@ length-one-record r one =
     let known = starts-parts r (both .0) .held .known in
     omega (arith, eqb-true (length r) (length-of (kind-of r)) (both .1), length-of-mapping-le (kind-of r) known)
 
-length-created : (e : List ℕ) → valid-event e ≡ true → length (created e) ≤ 22
+length-created-valid : (e : List ℕ) → valid-event e ≡ true → length (created e) ≤ 22
 unfolding created
-length-created e v = go (mapping-kind (kind-of e)) refl
+length-created-valid e v = go (mapping-kind (kind-of e)) refl
   where
     go : (b : Bool) → mapping-kind (kind-of e) ≡ b → length (cond b e []) ≤ 22
     go true k = omega (arith, valid-event-parts e v .exact, length-of-mapping-le (kind-of e) k)
@@ -107,7 +107,7 @@ module _ (c : Context) (r e : List ℕ) where
     room : valid-event e ≡ true → no-room limit r e ≡ false
     unfolding no-room
     room v =
-        le-ltb (min limit limit) (length r + length (created e)) (omega (arith, length-one-record r one, length-created e v))
+        le-ltb (min limit limit) (length r + length (created e)) (omega (arith, length-one-record r one, length-created-valid e v))
 
     answer-not-12 : answer c r e limit ≡ 12 → ⊥
     answer-not-12 h = by-valid (valid-event e) refl

@@ -65,12 +65,12 @@ small-line s e sound =
     record {
       answer = omega (arith, run-answer-is s e, answer-small (s .context) (s .table) e (length (s .back)));
       dropped = by-answer (run-answer s e) accepted refused;
-      length = omega (arith, sound-after s e sound .short);
+      length = omega (arith, sound-after s e sound .tabled .short);
     }
   where
     accepted : run-answer s e ≡ 0 → run-report s e .dropped < 2 ^ 64
     accepted h =
-        omega (arith, ap (λ (r : Report). r .dropped) (run-report-accepted s e h), dropped-small (s .context) (s .table) e, sound .short)
+        omega (arith, ap (λ (r : Report). r .dropped) (run-report-accepted s e h), dropped-small (s .context) (s .table) e, sound .tabled .short)
 
     refused : (run-answer s e ≡ 0 → ⊥) → run-report s e .dropped < 2 ^ 64
     refused h = omega (arith, ap (λ (r : Report). r .dropped) (run-report-refused s e h))

@@ -7,11 +7,11 @@ use borrow.Author.Tests.{not-true, not-false}
 use denote.Ref.{now}
 use Rattle.model.specs.Layouts.{kind-of, length-of}
 use Rattle.model.specs.Mappings.{mapping, starts-record}
-use Rattle.model.specs.Events.{event, valid-event}
+use Rattle.model.specs.Events.{event}
 use Rattle.model.specs.Answers.{event-answer}
 use Rattle.laws.specs.Mappings.{starts-reading-record, starts-reading-nothing}
 use Rattle.laws.specs.Events.{valid-event-read, valid-event-invalid}
-use Rattle.reasons.specs.Reasons.{one-record, first-reason, failed}
+use Rattle.reasons.specs.Reasons.{first-reason, failed}
 use Rattle.reasons.specs.Refusals.{one-record-none, one-record-other, one-record-made, explanation-refused, explanation-accepted, explained-out-of-range, explained-no-record, explained-invalid, explained-event, explained-accepted}
 use Rattle.reasons.proofs.explain.Statement.{statement}
 use Rattle.reasons.proofs.explain.Tie as tie

@@ -1,46 +1,24 @@
 -- No step of a replay answers 2 or 3, proved: its table is whole and short at every time.
-use Prim.Native.Nat.{ℕ, zero, suc, _≤_, _<_}
-use mathlib.Core.Bool.{Bool, true, false, cond, _||_}
+use Prim.Native.Nat.{ℕ, zero, suc}
+use mathlib.Core.Bool.{true}
 use mathlib.Core.List.{List, [], _∷_}
-use mathlib.Core.Path.{_≡_, refl, sym, ap, _∙_}
-use native.Mathlib.Omega.{arith}
+use mathlib.Core.Path.{_≡_, refl, sym, _∙_}
 use borrow.Author.Tests.{ne-eqb}
-use lib.Dec.{eqb}
-use lib.ListN.{length, take, drop}
-use Rattle.model.specs.declared.Context.{Context}
+use lib.ListN.{length, drop}
 use Rattle.model.specs.Context.{in-range, after-reset}
-use Rattle.model.specs.Tables.{limit, whole, joined}
+use Rattle.model.specs.Tables.{whole}
 use Rattle.model.specs.Events.{event}
-use Rattle.laws.specs.Lists.{Every, none, more}
+use Rattle.laws.specs.Lists.{Every, none, more, every-take, every-drop}
 use Rattle.laws.specs.Context.{Bytes, vpid-of-event, next-context-in-range}
-use Rattle.laws.specs.Tables.{joined-whole}
 use Rattle.laws.specs.Events.{valid-event-parts}
-use Rattle.laws.specs.Answers.{accepted-parts, answer-not-1, answer-not-2, answer-not-3}
-use Rattle.laws.specs.Steps.{new-table-whole, length-new-table}
+use Rattle.laws.specs.Answers.{answer-not-1, answer-not-2, answer-not-3}
 use Rattle.runs.specs.Runs.{Run, started, run-answer, run-after}
-use Rattle.runs.specs.Laws.Steps.{by-answer, run-answer-is, run-after-accepted, run-after-refused, run-accepted-valid, Sound, sound-started, sound-after, room-refuses-creations}
+use Rattle.runs.specs.Laws.Steps.{by-answer, run-answer-is, run-after-accepted, run-after-refused, run-accepted-valid, Tabled, tabled-started, tabled-after, Sound, sound-started, sound-after, room-refuses-creations}
 use Rattle.replays.specs.Logs.{program, event-size, events-within, events-of}
-use Rattle.replays.specs.Replays.{run-line, run-lines}
-use Rattle.replays.specs.Stops.{Answered, EachAnswered, stopping-lines, NoStop}
+use Rattle.replays.specs.Replays.{run-lines}
+use Rattle.replays.specs.Stops.{EachAnswered, stopping-lines, NoStop}
 
 -- ---- whatever the buffers are
-
--- the table is whole and within the limit
-record Tabled (s : Run) : Type 0 where
-  pub whole : whole (s .table) ≡ true
-  pub short : length (s .table) ≤ limit
-
-tabled-after : (s : Run) (e : List ℕ) → Tabled s → Tabled (run-after s e)
-tabled-after s e k = by-answer (run-answer s e) accepted (λ some. rw (run-after-refused s e some) k)
-  where
-    accepted : run-answer s e ≡ 0 → Tabled (run-after s e)
-    accepted h =
-        let parts = accepted-parts (s .context) (s .table) e (length (s .back)) (sym (run-answer-is s e) ∙ h) in
-        rw (run-after-accepted s e h)
-        (record {
-          whole = new-table-whole (s .context) (s .table) e (parts .valid);
-          short = omega (arith, parts .short, length-new-table (s .context) (s .table) e);
-        })
 
 run-not-2 : (s : Run) (e : List ℕ) → Tabled s → run-answer s e ≡ 2 → ⊥
 run-not-2 s e k h = answer-not-2 (s .context) (s .table) e (length (s .back)) (k .whole) (k .short) (sym (run-answer-is s e) ∙ h)
@@ -56,23 +34,13 @@ lines-same s (e ∷ es) k =
 
 -- ---- a log of bytes, from a context in its ranges
 
-every-take : (n : ℕ) (xs : List ℕ) → Bytes xs → Bytes (take n xs)
-every-take zero xs h = none
-every-take (suc n) [] h = none
-every-take (suc n) (x ∷ xs) (more p h) = more p (every-take n xs h)
-
-every-drop : (n : ℕ) (xs : List ℕ) → Bytes xs → Bytes (drop n xs)
-every-drop zero xs h = h
-every-drop (suc n) [] h = none
-every-drop (suc n) (x ∷ xs) (more p h) = every-drop n xs h
-
 events-bytes : (n : ℕ) (log : List ℕ) → Bytes log → Every Bytes (events-within n log)
 unfolding events-within
 events-bytes zero log h = none
 events-bytes (suc n) [] h = none
 events-bytes (suc n) (b ∷ bs) h =
-    more (every-take (event-size (b ∷ bs)) (b ∷ bs) h)
-    (events-bytes n (drop (event-size (b ∷ bs)) (b ∷ bs)) (every-drop (event-size (b ∷ bs)) (b ∷ bs) h))
+    more (every-take (event-size (b ∷ bs)) h)
+    (events-bytes n (drop (event-size (b ∷ bs)) (b ∷ bs)) (every-drop (event-size (b ∷ bs)) h))
 
 context-after : (s : Run) (e : List ℕ) → Bytes e → in-range (s .context) ≡ true → in-range (run-after s e .context) ≡ true
 context-after s e bytes fits = by-answer (run-answer s e) accepted (λ some. rw (run-after-refused s e some) fits)
@@ -86,9 +54,9 @@ each-answered : (s : Run) (es : List (List ℕ)) → Every Bytes es → Sound s 
 unfolding EachAnswered
 each-answered s [] none sound fits = tt
 each-answered s (e ∷ es) (more bytes others) sound fits =
-    let tabled : Tabled s = record { whole = sound .whole; short = sound .short } in (
+    let tabled = sound .tabled in (
       record {
-        not-1 = λ h. answer-not-1 (s .context) (s .table) e (length (s .back)) (sound .whole) (sound .short) fits (sym (run-answer-is s e) ∙ h);
+        not-1 = λ h. answer-not-1 (s .context) (s .table) e (length (s .back)) (tabled .whole) (tabled .short) fits (sym (run-answer-is s e) ∙ h);
         not-2 = run-not-2 s e tabled;
         not-3 = run-not-3 s e tabled;
         creations-alone = room-refuses-creations s e sound;
@@ -97,9 +65,9 @@ each-answered s (e ∷ es) (more bytes others) sound fits =
     )
 
 pub no-stop-holds : NoStop
-unfolding started after-reset in-range events-of joined
+unfolding started after-reset in-range events-of
 no-stop-holds =
     record {
       answers = λ log a b bytes h k. each-answered (started program a b) (events-of log) (events-bytes (length log) log bytes) (sound-started program a b h k) refl;
-      lines = λ c a b es. lines-same (started c a b) es (record { whole = joined-whole none; short = omega arith });
+      lines = λ c a b es. lines-same (started c a b) es (tabled-started c a b);
     }

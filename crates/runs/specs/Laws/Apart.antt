@@ -1,15 +1,14 @@
 -- Renters apart, proved: an event judges each record by itself, so that what it leaves of the records of
 -- which any test holds depends on these alone.
 use Prim.Native.Nat.{ℕ}
-use mathlib.Core.Bool.{Bool, true, false, not}
+use mathlib.Core.Bool.{Bool, true, not}
 use mathlib.Core.List.{List, [], _∷_, _++_}
-use mathlib.Core.Path.{_≡_, refl, sym, ap, _∙_}
+use mathlib.Core.Path.{_≡_, refl, sym, _∙_}
 use borrow.Author.Tests.{eqb-true, eqb-false, eq-eqb, ne-eqb}
 use lib.Dec.{eqb}
-use lib.ListN.{length, take}
+use lib.ListN.{length}
 use Rattle.model.specs.declared.Context.{Context}
-use Rattle.model.specs.Events.{event, valid-event}
-use Rattle.model.specs.Scopes.{next-context}
+use Rattle.model.specs.Events.{valid-event}
 use Rattle.model.specs.Answers.{answer}
 use Rattle.model.specs.Tables.{records, only}
 use Rattle.model.specs.Steps.{in-scope, new-table, stepped, written}

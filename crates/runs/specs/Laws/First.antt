@@ -27,7 +27,7 @@ follows-started c a b h k = record { sound = sound-started c a b h k; context = 
 -- so its table, its answers and its reports are the book's, and each event keeps this
 pub follows-table : (s : Run) (b : Book) → Follows s b → s .table ≡ book-table b
 unfolding book-table
-follows-table s b k = sym (whole-joined (s .table) (k .sound .whole)) ∙ ap joined (k .records)
+follows-table s b k = sym (whole-joined (s .table) (k .sound .tabled .whole)) ∙ ap joined (k .records)
 
 pub follows-answer : (s : Run) (b : Book) (e : List ℕ) → Follows s b → run-answer s e ≡ book-answer b e
 unfolding book-answer

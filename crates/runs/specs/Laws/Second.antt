@@ -45,9 +45,12 @@ pub sound-without : (gone : List Bool) (s : Run) → Sound s → Sound (run-with
 unfolding run-without
 sound-without gone s k =
     record {
-      whole = joined-whole (every-without gone (records-valid (s .table)));
-      short =
-          omega (arith, length-joined-without gone (records (s .table)), length-joined-records (s .table), k .short);
+      tabled =
+          record {
+            whole = joined-whole (every-without gone (records-valid (s .table)));
+            short =
+                omega (arith, length-joined-without gone (records (s .table)), length-joined-records (s .table), k .tabled .short);
+          };
       front = omega (arith, k .front, length-overwritten (joined (without gone (records (s .table)))) (s .front));
       back = k .back;
     }
@@ -74,7 +77,7 @@ within-usable s full k a =
 pub within-shorter : (s full : Run) → Within s full → length (s .table) ≤ length (full .table)
 unfolding InOrderPart
 within-shorter s full k =
-    let same = ap length (whole-joined (s .table) (k .sound .whole)) in
+    let same = ap length (whole-joined (s .table) (k .sound .tabled .whole)) in
     let fewer : length (joined (records (s .table))) ≤ length (joined (records (full .table))) =
     rw (k .part .1) (length-joined-without (k .part .0) (records (full .table))) in
     omega (arith, length-joined-records (full .table))
@@ -83,7 +86,7 @@ pub within-answer : (s full : Run) (e : List ℕ) → Within s full → (run-ans
 within-answer s full e k h =
     sound-answer s e (k .sound)
     ∙ ap (λ c. answer c (s .table) e limit) (k .context)
-    ∙ answer-shorter (full .context) (full .table) (s .table) e limit (k .full-sound .whole) (k .sound .whole) (k .full-sound .short)
+    ∙ answer-shorter (full .context) (full .table) (s .table) e limit (k .full-sound .tabled .whole) (k .sound .tabled .whole) (k .full-sound .tabled .short)
     (within-shorter s full k) (λ z. h (sound-answer full e (k .full-sound) ∙ z))
     ∙ sym (sound-answer full e (k .full-sound))
 

@@ -68,17 +68,24 @@ unfolding run-report run-answer
 run-report-refused s e h =
     rw (stepped-refused (s .context) (s .table) e (length (s .back)) (λ z. h (run-answer-is s e ∙ z)))
 
--- what holds of a run at every time: its table is whole and within the limit, its buffers are not
--- shorter than that
-pub record Sound (s : Run) : Type 0 where
+-- what holds of a run at every time: its table is whole and within the limit
+pub record Tabled (s : Run) : Type 0 where
   pub whole : whole (s .table) ≡ true
   pub short : length (s .table) ≤ limit
+
+pub tabled-started : (c : Context) (a b : List ℕ) → Tabled (started c a b)
+unfolding started joined
+tabled-started c a b = record { whole = joined-whole none; short = omega arith }
+
+-- and of a run with long buffers, that they are not shorter than the limit
+pub record Sound (s : Run) : Type 0 where
+  pub tabled : Tabled s
   pub front : limit ≤ length (s .front)
   pub back : limit ≤ length (s .back)
 
 pub sound-started : (c : Context) (a b : List ℕ) → limit ≤ length a → limit ≤ length b → Sound (started c a b)
-unfolding started joined
-sound-started c a b h k = record { whole = joined-whole none; short = omega arith; front = h; back = k }
+unfolding started
+sound-started c a b h k = record { tabled = tabled-started c a b; front = h; back = k }
 
 -- room is enough in such a run, whatever its buffers
 pub sound-answer : (s : Run) (e : List ℕ) → Sound s → run-answer s e ≡ answer (s .context) (s .table) e limit
@@ -89,16 +96,27 @@ pub run-accepted-valid : (s : Run) (e : List ℕ) → run-answer s e ≡ 0 → v
 run-accepted-valid s e h = accepted-parts (s .context) (s .table) e (length (s .back)) (sym (run-answer-is s e) ∙ h) .valid
 
 -- every step keeps this
-pub sound-after : (s : Run) (e : List ℕ) → Sound s → Sound (run-after s e)
-sound-after s e k = by-answer (run-answer s e) accepted (λ h. rw (run-after-refused s e h) k)
+pub tabled-after : (s : Run) (e : List ℕ) → Tabled s → Tabled (run-after s e)
+tabled-after s e k = by-answer (run-answer s e) accepted (λ h. rw (run-after-refused s e h) k)
   where
-    accepted : run-answer s e ≡ 0 → Sound (run-after s e)
+    accepted : run-answer s e ≡ 0 → Tabled (run-after s e)
     accepted h =
         let parts = accepted-parts (s .context) (s .table) e (length (s .back)) (sym (run-answer-is s e) ∙ h) in
         rw (run-after-accepted s e h)
         (record {
           whole = new-table-whole (s .context) (s .table) e (parts .valid);
           short = omega (arith, parts .short, length-new-table (s .context) (s .table) e);
+        })
+
+pub sound-after : (s : Run) (e : List ℕ) → Sound s → Sound (run-after s e)
+sound-after s e k = by-answer (run-answer s e) accepted (λ h. rw (run-after-refused s e h) k)
+  where
+    accepted : run-answer s e ≡ 0 → Sound (run-after s e)
+    accepted h =
+        let after = tabled-after s e (k .tabled) in
+        rw (run-after-accepted s e h)
+        (record {
+          tabled = rw (run-after-accepted s e h) at after;
           front = omega (arith, k .back, length-overwritten (new-table (s .context) (s .table) e) (s .back));
           back = k .front;
         })
@@ -116,4 +134,4 @@ room-refuses-creations s e k h = go (mapping-kind (kind-of e)) refl
     go false q =
         let none : length (created e) ≡ 0 = rw q in
         let over = ltb-true (min limit limit) (length (s .table) + length (created e)) full in
-        absurd (omega (arith, k .short))
+        absurd (omega (arith, k .tabled .short))
