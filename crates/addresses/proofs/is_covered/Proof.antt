@@ -19,18 +19,9 @@ returns c =
     let a = c .before .args in
     sym (eq-eqb _ _ (quotient-zero (a .p) (a .span) (c .before .fits .p .fits) (c .if1 .taken) ∙ sym (quotient-zero (a .page) (a .span) (c .before .fits .page .fits) (c .if1 .taken))))
 
-mul-shift : tie.Need-mul-shift
-mul-shift c = search needs
-
-shr-result : tie.Need-shr-result
-shr-result c = search needs
-
-shr-result-2 : tie.Need-shr-result-2
-shr-result-2 c = search needs
-
 returns-2 : tie.Need-returns-2
 unfolding Rattle.model.specs.Mappings.covers
 returns-2 c = refl
 
 pub is-covered-spec : {M : Type 1} → statement M
-is-covered-spec = tie.close (tie.spec returns mul-shift shr-result shr-result-2 returns-2)
+is-covered-spec = tie.close (tie.spec returns (λ c. search needs) (λ c. search needs) (λ c. search needs) returns-2)

@@ -5,15 +5,6 @@ use Rattle.events.proofs.Laws.{reading-creation}
 use Rattle.events.proofs.read_creation.Statement.{statement}
 use Rattle.events.proofs.read_creation.Tie as tie
 
-read-record-requires : tie.Need-read-record-requires
-read-record-requires c κs = search needs
-
-enum-known-mapping : tie.Need-enum-known-mapping
-enum-known-mapping c = search needs
-
-enum-told : tie.Need-enum-told
-enum-told c = search needs
-
 returns : tie.Need-returns
 returns c =
     let read = c .before .before .before .before in
@@ -32,4 +23,4 @@ returns-3 c =
 pub read-creation-spec : {M : Type 1} → statement M
 read-creation-spec =
     tie.close
-    (tie.spec read-record-requires enum-known-mapping enum-told returns returns-2 returns-3)
+    (tie.spec (λ c κs. search needs) (λ c. search needs) (λ c. search needs) returns returns-2 returns-3)

@@ -11,24 +11,6 @@ returns : tie.Need-returns
 unfolding length-of body-of
 returns c = invalid-length _ 20 (c .before .before .pre) (c .if1 .taken)
 
-number1-requires : tie.Need-number1-requires
-number1-requires c κs = search needs
-
-number2-requires : tie.Need-number2-requires
-number2-requires c κs = search needs
-
-number1-requires-2 : tie.Need-number1-requires-2
-number1-requires-2 c κs = search needs
-
-number8-requires : tie.Need-number8-requires
-number8-requires c κs = search needs
-
-number2-requires-2 : tie.Need-number2-requires-2
-number2-requires-2 c κs = search needs
-
-number1-requires-3 : tie.Need-number1-requires-3
-number1-requires-3 c κs = search needs
-
 returns-2 : tie.Need-returns-2
 unfolding event entry field mapping-kind event-kind length-of body-of event-in-range
 returns-2 c =
@@ -48,11 +30,11 @@ read-entry-spec =
     tie.close
     (tie.spec
     returns
-    number1-requires
-    number2-requires
-    number1-requires-2
-    number8-requires
-    number2-requires-2
-    number1-requires-3
+    (λ c κs. search needs)
+    (λ c κs. search needs)
+    (λ c κs. search needs)
+    (λ c κs. search needs)
+    (λ c κs. search needs)
+    (λ c κs. search needs)
     returns-2
     returns-3)

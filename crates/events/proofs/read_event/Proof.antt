@@ -15,9 +15,6 @@ use Rattle.events.proofs.read_event.Tie as tie
 returns : tie.Need-returns
 returns c = invalid-empty _ (c .if1 .taken)
 
-shared-slice-read-match : tie.Need-shared-slice-read-match
-shared-slice-read-match c = search needs
-
 read-invalidation-requires : tie.Need-read-invalidation-requires
 unfolding kind-of
 read-invalidation-requires c κs = inl (c .match .keys1)
@@ -50,24 +47,6 @@ read-creation-requires : tie.Need-read-creation-requires
 unfolding kind-of
 read-creation-requires c κs = rw (mapping-kind-range, le-leb 1 _ (c .before .if5 .left), le-leb _ 6 (le-of-suc-le-suc (c .if6 .taken)))
 
-returns-2 : tie.Need-returns-2
-returns-2 c = search needs
-
-returns-3 : tie.Need-returns-3
-returns-3 c = search needs
-
-returns-4 : tie.Need-returns-4
-returns-4 c = search needs
-
-returns-5 : tie.Need-returns-5
-returns-5 c = search needs
-
-returns-6 : tie.Need-returns-6
-returns-6 c = search needs
-
-returns-7 : tie.Need-returns-7
-returns-7 c = search needs
-
 returns-8 : tie.Need-returns-8
 unfolding kind-of event mapping-kind event-kind length-of body-of event-in-range
 returns-8 c = read-valid _ 22 _ (c .before .match .keys7) refl (c .if2 .taken) (rw (c .before .match .keys7)) refl
@@ -84,9 +63,6 @@ returns-11 : tie.Need-returns-11
 unfolding kind-of length-of body-of
 returns-11 c = invalid-length _ 23 (c .before .match .keys8) (c .if3 .left)
 
-returns-12 : tie.Need-returns-12
-returns-12 c = search needs
-
 returns-13 : tie.Need-returns-13
 unfolding kind-of event mapping-kind event-kind length-of body-of event-in-range
 returns-13 c = read-valid _ 25 _ (c .before .match .keys10) refl (c .if4 .taken) (rw (c .before .match .keys10)) refl
@@ -94,9 +70,6 @@ returns-13 c = read-valid _ 25 _ (c .before .match .keys10) refl (c .if4 .taken)
 returns-14 : tie.Need-returns-14
 unfolding kind-of length-of body-of
 returns-14 c = invalid-length _ 25 (c .before .match .keys10) (c .if4 .left)
-
-returns-15 : tie.Need-returns-15
-returns-15 c = search needs
 
 returns-16 : tie.Need-returns-16
 unfolding kind-of
@@ -111,7 +84,7 @@ read-event-spec =
     tie.close
     (tie.spec
     returns
-    shared-slice-read-match
+    (λ c. search needs)
     read-invalidation-requires
     read-invalidation-requires-2
     read-invlpg-requires
@@ -120,19 +93,19 @@ read-event-spec =
     read-exit-requires
     read-new-pcid-requires
     read-creation-requires
-    returns-2
-    returns-3
-    returns-4
-    returns-5
-    returns-6
-    returns-7
+    (λ c. search needs)
+    (λ c. search needs)
+    (λ c. search needs)
+    (λ c. search needs)
+    (λ c. search needs)
+    (λ c. search needs)
     returns-8
     returns-9
     returns-10
     returns-11
-    returns-12
+    (λ c. search needs)
     returns-13
     returns-14
-    returns-15
+    (λ c. search needs)
     returns-16
     returns-17)

@@ -12,9 +12,6 @@ returns : tie.Need-returns
 unfolding length-of body-of
 returns c = invalid-length _ 21 (c .before .before .pre) (c .if1 .taken)
 
-number2-requires : tie.Need-number2-requires
-number2-requires c κs = search needs
-
 returns-2 : tie.Need-returns-2
 unfolding event field mapping-kind event-kind length-of body-of event-in-range
 returns-2 c =
@@ -29,4 +26,4 @@ returns-3 c =
     invalid-field _ (rw (c .before .before .before .before .pre) told)
 
 pub read-exit-spec : {M : Type 1} → statement M
-read-exit-spec = tie.close (tie.spec returns number2-requires returns-2 returns-3)
+read-exit-spec = tie.close (tie.spec returns (λ c κs. search needs) returns-2 returns-3)

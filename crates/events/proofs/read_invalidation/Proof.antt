@@ -14,18 +14,6 @@ unfolding length-of body-of
 returns c =
     ⊎-elim (λ is. invalid-length _ 16 is (c .if1 .taken)) (λ is. invalid-length _ 17 is (c .if1 .taken)) (c .before .before .pre)
 
-number8-requires : tie.Need-number8-requires
-number8-requires c κs = search needs
-
-number8-requires-2 : tie.Need-number8-requires-2
-number8-requires-2 c κs = search needs
-
-number8-requires-3 : tie.Need-number8-requires-3
-number8-requires-3 c κs = search needs
-
-shared-slice-read-if2 : tie.Need-shared-slice-read-if2
-shared-slice-read-if2 c = search needs
-
 returns-2 : tie.Need-returns-2
 unfolding kind-of event operands field mapping-kind event-kind length-of body-of event-in-range
 returns-2 c =
@@ -45,4 +33,6 @@ returns-3 c =
 pub read-invalidation-spec : {M : Type 1} → statement M
 read-invalidation-spec =
     tie.close
-    (tie.spec returns number8-requires number8-requires-2 number8-requires-3 shared-slice-read-if2 returns-2 returns-3)
+    (tie.spec
+    returns (λ c κs. search needs) (λ c κs. search needs) (λ c κs. search needs) (λ c. search needs) returns-2
+    returns-3)

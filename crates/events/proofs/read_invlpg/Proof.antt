@@ -11,9 +11,6 @@ returns : tie.Need-returns
 unfolding length-of body-of
 returns c = invalid-length _ 18 (c .before .before .pre) (c .if1 .taken)
 
-number8-requires : tie.Need-number8-requires
-number8-requires c κs = search needs
-
 returns-2 : tie.Need-returns-2
 unfolding event field mapping-kind event-kind length-of body-of event-in-range
 returns-2 c =
@@ -22,4 +19,4 @@ returns-2 c =
     read-valid _ 18 _ kind refl (test .if1 .left) (rw kind (cc)) refl
 
 pub read-invlpg-spec : {M : Type 1} → statement M
-read-invlpg-spec = tie.close (tie.spec returns number8-requires returns-2)
+read-invlpg-spec = tie.close (tie.spec returns (λ c κs. search needs) returns-2)

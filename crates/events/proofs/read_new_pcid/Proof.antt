@@ -11,12 +11,6 @@ returns : tie.Need-returns
 unfolding length-of body-of
 returns c = invalid-length _ 24 (c .before .before .pre) (c .if1 .taken)
 
-number2-requires : tie.Need-number2-requires
-number2-requires c κs = search needs
-
-number1-requires : tie.Need-number1-requires
-number1-requires c κs = search needs
-
 returns-2 : tie.Need-returns-2
 unfolding event new-pcid field mapping-kind event-kind length-of body-of event-in-range
 returns-2 c =
@@ -32,4 +26,4 @@ returns-3 c =
 
 pub read-new-pcid-spec : {M : Type 1} → statement M
 read-new-pcid-spec =
-    tie.close (tie.spec returns number2-requires number1-requires returns-2 returns-3)
+    tie.close (tie.spec returns (λ c κs. search needs) (λ c κs. search needs) returns-2 returns-3)

@@ -11,18 +11,6 @@ returns : tie.Need-returns
 unfolding length-of body-of
 returns c = invalid-length _ 19 (c .before .before .pre) (c .if1 .taken)
 
-number8-requires : tie.Need-number8-requires
-number8-requires c κs = search needs
-
-number1-requires : tie.Need-number1-requires
-number1-requires c κs = search needs
-
-number8-requires-2 : tie.Need-number8-requires-2
-number8-requires-2 c κs = search needs
-
-is-canonical-requires : tie.Need-is-canonical-requires
-is-canonical-requires c κs = search needs
-
 returns-2 : tie.Need-returns-2
 unfolding event violation field mapping-kind event-kind length-of body-of event-in-range
 returns-2 c =
@@ -42,9 +30,9 @@ read-violation-spec =
     tie.close
     (tie.spec
     returns
-    number8-requires
-    number1-requires
-    number8-requires-2
-    is-canonical-requires
+    (λ c κs. search needs)
+    (λ c κs. search needs)
+    (λ c κs. search needs)
+    (λ c κs. search needs)
     returns-2
     returns-3)

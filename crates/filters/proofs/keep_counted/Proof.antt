@@ -8,15 +8,6 @@ use Rattle.filters.specs.Whole.{keeps-all, keeps-none}
 use Rattle.filters.proofs.keep_counted.Statement.{statement}
 use Rattle.filters.proofs.keep_counted.Tie as tie
 
-is-without-scope-requires : tie.Need-is-without-scope-requires
-is-without-scope-requires c κs = search needs
-
-copy-run-requires : tie.Need-copy-run-requires
-copy-run-requires c κs = search needs
-
-same-length : tie.Need-same-length
-same-length c = search needs
-
 returns : tie.Need-returns
 returns c =
     let s = c .before .before .before .before .before .before .before .before in
@@ -25,33 +16,21 @@ returns c =
     let copy = c .before .before .copy-run .ensures in
     keeps-all (a .c) (a .e) (now (a .table)) (now (a .new)) (s .pre .0) none _ (copy .0 ∙ rw (zero-add, sub-zero)) _ (copy .1)
 
-enum-told : tie.Need-enum-told
-enum-told c = search needs
-
-keep-requires : tie.Need-keep-requires
-keep-requires c κs = search needs
-
 returns-2 : tie.Need-returns-2
 returns-2 c =
     let s = c .before .before .before .before .before .before in
     rw (c .enum-told .given .1) (keeps-none (s .args .c) (now (s .args .table)) (now (s .args .new)) _ (s .pre .1 .1))
 
-same-length-2 : tie.Need-same-length-2
-same-length-2 c = search needs
-
-returns-3 : tie.Need-returns-3
-returns-3 c = search needs
-
 pub keep-counted-spec : {M : Type 1} → statement M
 keep-counted-spec =
     tie.close
     (tie.spec
-    is-without-scope-requires
-    copy-run-requires
-    same-length
+    (λ c κs. search needs)
+    (λ c κs. search needs)
+    (λ c. search needs)
     returns
-    enum-told
-    keep-requires
+    (λ c. search needs)
+    (λ c κs. search needs)
     returns-2
-    same-length-2
-    returns-3)
+    (λ c. search needs)
+    (λ c. search needs))

@@ -10,21 +10,12 @@ use borrow.Author.Needs.{needs}
 use Rattle.lines.proofs.put_number.Statement.{statement}
 use Rattle.lines.proofs.put_number.Tie as tie
 
-decimal-requires : tie.Need-decimal-requires
-decimal-requires c κs = search needs
-
 -- what is copied are the number's digits
 text-is : (c : tie.After-decimal)
     → take (c .decimal .result) (c .decimal .last .1 .0) ≡ decimal (c .before .before .before .args .n)
 text-is c =
     c .decimal .ensures .1 .1
     ∙ decimal-digits (c .before .before .before .args .n) (c .decimal .result) (c .before .before .before .fits .n .fits) (c .decimal .ensures .1 .0)
-
-array-share-prefix-digits : tie.Need-array-share-prefix-digits
-array-share-prefix-digits c = search needs
-
-slice-aggregate-put : tie.Need-slice-aggregate-put
-slice-aggregate-put c = search needs
 
 put-requires : tie.Need-put-requires
 put-requires c κs = omega (arith, ap length (text-is (c .before .before)), length-decimal (c .before .before .before .before .before .args .n))
@@ -39,9 +30,6 @@ slice-write-out c = omega (arith, ends c, length-decimal (c .before .before .bef
 add-result : tie.Need-add-result
 add-result c = omega (arith, ends c, length-decimal (c .before .before .before .before .before .before .before .before .args .n))
 
-same-length : tie.Need-same-length
-same-length c = search needs
-
 returns : tie.Need-returns
 returns c =
     let a = c .before .before .before .before .before .before .before .before .args in (
@@ -54,11 +42,11 @@ pub put-number-spec : {M : Type 1} → statement M
 put-number-spec =
     tie.close
     (tie.spec
-    decimal-requires
-    array-share-prefix-digits
-    slice-aggregate-put
+    (λ c κs. search needs)
+    (λ c. search needs)
+    (λ c. search needs)
     put-requires
     slice-write-out
     add-result
-    same-length
+    (λ c. search needs)
     returns)

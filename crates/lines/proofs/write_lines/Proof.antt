@@ -39,30 +39,6 @@ loop-holds c =
     let a = c .before .before .before .before .before .args in
     (written-none (now (a .rows)) (a .from) (a .to) (now (a .out)) (c .before .before .if1 .left), refl)
 
-mul-at : tie.Need-mul-at Inv-loop μ-loop
-mul-at c = search needs
-
-number8-requires : tie.Need-number8-requires Inv-loop μ-loop
-number8-requires c κs = search needs
-
-add-number8 : tie.Need-add-number8 Inv-loop μ-loop
-add-number8 c = search needs
-
-number8-requires-2 : tie.Need-number8-requires-2 Inv-loop μ-loop
-number8-requires-2 c κs = search needs
-
-add-number8-2 : tie.Need-add-number8-2 Inv-loop μ-loop
-add-number8-2 c = search needs
-
-number8-requires-3 : tie.Need-number8-requires-3 Inv-loop μ-loop
-number8-requires-3 c κs = search needs
-
-add-write-line : tie.Need-add-write-line Inv-loop μ-loop
-add-write-line c = search needs
-
-write-line-requires : tie.Need-write-line-requires Inv-loop μ-loop
-write-line-requires c κs = search needs
-
 -- the line holds the text of its row
 text-is : (c : tie.After-write-line Inv-loop μ-loop)
     → take (c .write-line .result) (c .write-line .last .1 .1 .1 .1 .0) ≡ row-text (now (c .before .before .before .before .before .before .before .before .before .before .before .before .args .rows)) (c .before .before .before .before .before .before .loop .i)
@@ -94,12 +70,6 @@ put-requires c κs =
     let row = length-row (now (c .before .before .before .before .before .before .before .before .before .before .before .before .before .before .args .rows)) (c .before .before .before .before .before .before .before .before .loop .i) in
     omega (arith, ap length (text-is (c .before .before)), row, done .most, done .same, done .low)
 
-add-i : tie.Need-add-i Inv-loop μ-loop
-add-i c = search needs
-
-loop-less : tie.Need-loop-less Inv-loop μ-loop
-loop-less c = search needs
-
 loop-again : tie.Need-loop-again Inv-loop μ-loop
 loop-again c =
     let a = c .before .before .before .before .before .before .before .before .before .before .before .before .before .before .before .before .before .args in (
@@ -127,19 +97,19 @@ write-lines-spec =
     returns-2
     returns-3
     loop-holds
-    mul-at
-    number8-requires
-    add-number8
-    number8-requires-2
-    add-number8-2
-    number8-requires-3
-    add-write-line
-    write-line-requires
+    (λ c. search needs)
+    (λ c κs. search needs)
+    (λ c. search needs)
+    (λ c κs. search needs)
+    (λ c. search needs)
+    (λ c κs. search needs)
+    (λ c. search needs)
+    (λ c κs. search needs)
     array-share-prefix-line
     slice-aggregate-put
     put-requires
-    add-i
-    loop-less
+    (λ c. search needs)
+    (λ c. search needs)
     loop-again
     same-length
     returns-4)

@@ -9,9 +9,6 @@ use Rattle.lookups.proofs.Laws.{answered-whole, end-of-part}
 use Rattle.lookups.proofs.find.Statement.{statement}
 use Rattle.lookups.proofs.find.Tie as tie
 
-answer-to-lookup-requires : tie.Need-answer-to-lookup-requires
-answer-to-lookup-requires c κs = search needs
-
 returns : tie.Need-returns
 unfolding lookup lookup-start
 returns c =
@@ -30,4 +27,4 @@ returns-2 c =
     (c .before .before .answer-to-lookup .ensures, rw (is-0, ← (found .place)) (refl, end))
 
 pub find-spec : {M : Type 1} → statement M
-find-spec = tie.close (tie.spec answer-to-lookup-requires returns search-requires returns-2)
+find-spec = tie.close (tie.spec (λ c κs. search needs) returns search-requires returns-2)

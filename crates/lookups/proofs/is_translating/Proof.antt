@@ -4,18 +4,6 @@ use Rattle.model.specs.Lookups.{translates-linear}
 use Rattle.lookups.proofs.is_translating.Statement.{statement}
 use Rattle.lookups.proofs.is_translating.Tie as tie
 
-kind-requires : tie.Need-kind-requires
-kind-requires c κs = search needs
-
-enum-told : tie.Need-enum-told
-enum-told c = search needs
-
-enum-known-ept : tie.Need-enum-known-ept
-enum-known-ept c = search needs
-
-ep4ta-requires : tie.Need-ep4ta-requires
-ep4ta-requires c κs = search needs
-
 returns : tie.Need-returns
 unfolding translates-linear
 returns c = rw (c .enum-told .given .1, c .before .before .kind .ensures)
@@ -26,4 +14,6 @@ returns-2 c = rw (c .before .before .ept .given .1, c .before .before .before .b
 
 pub is-translating-spec : {M : Type 1} → statement M
 is-translating-spec =
-    tie.close (tie.spec kind-requires enum-told enum-known-ept ep4ta-requires returns returns-2)
+    tie.close
+    (tie.spec
+    (λ c κs. search needs) (λ c. search needs) (λ c. search needs) (λ c κs. search needs) returns returns-2)

@@ -8,12 +8,6 @@ use Rattle.lookups.proofs.Laws.{answered-whole}
 use Rattle.lookups.proofs.look_up.Statement.{statement}
 use Rattle.lookups.proofs.look_up.Tie as tie
 
-answer-to-lookup-requires : tie.Need-answer-to-lookup-requires
-answer-to-lookup-requires c κs = search needs
-
-slice-aggregate-result : tie.Need-slice-aggregate-result
-slice-aggregate-result c = search needs
-
 returns : tie.Need-returns
 unfolding lookup lookup-start
 returns c =
@@ -22,15 +16,6 @@ returns c =
 
 search-requires : tie.Need-search-requires
 search-requires c κs = answered-whole _ _ (sym (c .before .answer-to-lookup .ensures) ∙ c .if1 .left)
-
-sub-result : tie.Need-sub-result
-sub-result c = search needs
-
-part-result-start : tie.Need-part-result-start
-part-result-start c = search needs
-
-part-result-end : tie.Need-part-result-end
-part-result-end c = search needs
 
 returns-2 : tie.Need-returns-2
 unfolding lookup lookup-start
@@ -42,11 +27,11 @@ pub look-up-spec : {M : Type 1} → statement M
 look-up-spec =
     tie.close
     (tie.spec
-    answer-to-lookup-requires
-    slice-aggregate-result
+    (λ c κs. search needs)
+    (λ c. search needs)
     returns
     search-requires
-    sub-result
-    part-result-start
-    part-result-end
+    (λ c. search needs)
+    (λ c. search needs)
+    (λ c. search needs)
     returns-2)

@@ -18,15 +18,6 @@ abbrev μ-loop : tie.MeasureT-loop
 loop-holds : tie.Need-loop-holds Inv-loop μ-loop
 loop-holds c = search-start _ _ _ _ (c .before .pre)
 
-sub-part : tie.Need-sub-part Inv-loop μ-loop
-sub-part c = search needs
-
-part-part-start : tie.Need-part-part-start Inv-loop μ-loop
-part-part-start c = search needs
-
-part-part-end : tie.Need-part-part-end Inv-loop μ-loop
-part-part-end c = search needs
-
 length-of-held-requires : tie.Need-length-of-held-requires Inv-loop μ-loop
 length-of-held-requires c κs = held-of-whole _ _ (c .before .before .loop .inv .rest) (c .before .if1 .left)
 
@@ -39,9 +30,6 @@ add-end c = omega (arith, next c .within)
 
 is-usable-requires : tie.Need-is-usable-requires Inv-loop μ-loop
 is-usable-requires c κs = held-of-whole _ _ (c .before .before .before .loop .inv .rest) (c .before .before .if1 .left)
-
-sub-left : tie.Need-sub-left Inv-loop μ-loop
-sub-left c = search needs
 
 loop-less : tie.Need-loop-less Inv-loop μ-loop
 loop-less c = omega (arith, next (c .before .before .before))
@@ -71,13 +59,13 @@ search-spec =
     Inv-loop
     μ-loop
     loop-holds
-    sub-part
-    part-part-start
-    part-part-end
+    (λ c. search needs)
+    (λ c. search needs)
+    (λ c. search needs)
     length-of-held-requires
     add-end
     is-usable-requires
-    sub-left
+    (λ c. search needs)
     loop-less
     loop-again
     loop-less-2

@@ -5,9 +5,6 @@ use Rattle.mappings.specs.Fields.{held-length, global-tests}
 use Rattle.mappings.proofs.is_global_translation.Statement.{statement}
 use Rattle.mappings.proofs.is_global_translation.Tie as tie
 
-kind-requires : tie.Need-kind-requires
-kind-requires c κs = search needs
-
 number1-requires : tie.Need-number1-requires
 number1-requires c κs = omega (arith, held-length _ (c .before .before .pre))
 
@@ -15,4 +12,4 @@ returns : tie.Need-returns
 returns c = rw (c .before .kind .ensures, c .number1 .ensures .0) (global-tests _ (c .before .before .before .pre))
 
 pub is-global-translation-spec : {M : Type 1} → statement M
-is-global-translation-spec = tie.close (tie.spec kind-requires number1-requires returns)
+is-global-translation-spec = tie.close (tie.spec (λ c κs. search needs) number1-requires returns)

@@ -9,15 +9,6 @@ use Rattle.mappings.specs.Fields.{held-length, span-below, ranges-off, r
 use Rattle.mappings.proofs.is_in_ranges.Statement.{statement}
 use Rattle.mappings.proofs.is_in_ranges.Tie as tie
 
-kind-requires : tie.Need-kind-requires
-kind-requires c κs = search needs
-
-span-requires : tie.Need-span-requires
-span-requires c κs = search needs
-
-is-span-requires : tie.Need-is-span-requires
-is-span-requires c κs = search needs
-
 -- what the test of the span says
 said : (c : tie.After-is-span) → c .is-span .result ≡ span-in-range (mapping (now (c .before .before .before .before .args .part)) .kind) (mapping (now (c .before .before .before .before .args .part)) .span)
 said c = rw (c .before .before .kind .ensures, c .before .span .ensures) at (c .is-span .ensures)
@@ -30,9 +21,6 @@ number1-requires c κs = omega (arith, held-length _ (c .before .before .before 
 
 number2-requires : tie.Need-number2-requires
 number2-requires c κs = omega (arith, held-length _ (c .before .before .before .before .before .before .pre))
-
-page-requires : tie.Need-page-requires
-page-requires c κs = search needs
 
 is-page-requires : tie.Need-is-page-requires
 is-page-requires c κs =
@@ -56,12 +44,12 @@ pub is-in-ranges-spec : {M : Type 1} → statement M
 is-in-ranges-spec =
     tie.close
     (tie.spec
-    kind-requires
-    span-requires
-    is-span-requires
+    (λ c κs. search needs)
+    (λ c κs. search needs)
+    (λ c κs. search needs)
     returns
     number1-requires
     number2-requires
-    page-requires
+    (λ c κs. search needs)
     is-page-requires
     returns-2)

@@ -13,12 +13,6 @@ use Rattle.mappings.proofs.is_page.Tie as tie
 shifted : (k : ℕ) → k < 64 → 1 * 2 ^ k % 2 ^ 64 ≡ 2 ^ k
 shifted k h = shl-exact {a = 1} 1 k 64 (lit< tt) (omega arith) ∙ one-mul (2 ^ k)
 
-mul-result : tie.Need-mul-result
-mul-result c = search needs
-
-shl-result : tie.Need-shl-result
-shl-result c = search needs
-
 rem-result : tie.Need-rem-result
 rem-result c = rw (shifted (9 * c .args .span) (omega arith)) (pow-pos (9 * c .args .span))
 
@@ -26,4 +20,4 @@ returns : tie.Need-returns
 returns c = rw (shifted (9 * c .args .span) (omega arith))
 
 pub is-page-spec : {M : Type 1} → statement M
-is-page-spec = tie.close (tie.spec mul-result shl-result rem-result returns)
+is-page-spec = tie.close (tie.spec (λ c. search needs) (λ c. search needs) rem-result returns)

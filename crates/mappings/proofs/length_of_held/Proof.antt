@@ -8,9 +8,6 @@ use Rattle.mappings.specs.Fields.{length-by-kind}
 use Rattle.mappings.proofs.length_of_held.Statement.{statement}
 use Rattle.mappings.proofs.length_of_held.Tie as tie
 
-kind-requires : tie.Need-kind-requires
-kind-requires c κs = search needs
-
 of-kind-requires : tie.Need-of-kind-requires
 unfolding mapping
 of-kind-requires c κs = omega (arith, c .kind .ensures, mapping-kind-le _ (c .before .before .pre .known))
@@ -20,4 +17,4 @@ unfolding mapping
 returns c = rw (c .before .kind .ensures) at (c .of-kind .ensures) ∙ length-by-kind _ (c .before .before .before .pre .known)
 
 pub length-of-held-spec : {M : Type 1} → statement M
-length-of-held-spec = tie.close (tie.spec kind-requires of-kind-requires returns)
+length-of-held-spec = tie.close (tie.spec (λ c κs. search needs) of-kind-requires returns)

@@ -15,12 +15,6 @@ use Rattle.mappings.proofs.length_of_record.Tie as tie
 returns : tie.Need-returns
 returns c = omega (arith, record-length-le (now (c .before .before .args .part)))
 
-number1-requires : tie.Need-number1-requires
-number1-requires c κs = search needs
-
-is-kind-requires : tie.Need-is-kind-requires
-is-kind-requires c κs = search needs
-
 -- what the test of the kind says
 said : (c : tie.After-is-kind) → c .is-kind .result ≡ mapping-kind (kind-of (now (c .before .before .before .before .args .part)))
 unfolding kind-of
@@ -63,8 +57,8 @@ length-of-record-spec =
     tie.close
     (tie.spec
     returns
-    number1-requires
-    is-kind-requires
+    (λ c κs. search needs)
+    (λ c κs. search needs)
     returns-2
     of-kind-requires
     returns-3

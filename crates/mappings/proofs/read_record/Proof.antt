@@ -7,9 +7,6 @@ use borrow.Author.Needs.{needs}
 use Rattle.mappings.proofs.read_record.Statement.{statement}
 use Rattle.mappings.proofs.read_record.Tie as tie
 
-length-of-record-requires : tie.Need-length-of-record-requires
-length-of-record-requires c κs = search needs
-
 returns : tie.Need-returns
 returns c = sym (reading-nothing _ (sym (c .before .length-of-record .ensures) ∙ c .if1 .taken))
 
@@ -23,4 +20,4 @@ returns-2 c =
 
 pub read-record-spec : {M : Type 1} → statement M
 read-record-spec =
-    tie.close (tie.spec length-of-record-requires returns mapping-of-requires returns-2)
+    tie.close (tie.spec (λ c κs. search needs) returns mapping-of-requires returns-2)

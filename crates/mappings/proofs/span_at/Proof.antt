@@ -7,9 +7,6 @@ use Rattle.mappings.specs.Fields.{span-at-held}
 use Rattle.mappings.proofs.span_at.Statement.{statement}
 use Rattle.mappings.proofs.span_at.Tie as tie
 
-kind-requires : tie.Need-kind-requires
-kind-requires c κs = search needs
-
 of-kind-requires : tie.Need-of-kind-requires
 unfolding mapping
 of-kind-requires c κs = omega (arith, c .kind .ensures, mapping-kind-le _ (c .before .before .pre .known))
@@ -19,4 +16,4 @@ unfolding mapping
 returns c = span-at-held _ _ (c .before .before .before .pre) (rw (c .before .kind .ensures) at (c .of-kind .ensures))
 
 pub span-at-spec : {M : Type 1} → statement M
-span-at-spec = tie.close (tie.spec kind-requires of-kind-requires returns)
+span-at-spec = tie.close (tie.spec (λ c κs. search needs) of-kind-requires returns)

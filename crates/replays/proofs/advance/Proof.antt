@@ -15,30 +15,12 @@ slice-reshare-prefix-step c = rw (c .if1 .taken) at (c .before .before .before .
 slice-aggregate-step : tie.Need-slice-aggregate-step
 slice-aggregate-step c = sym (length-take-le _ _ (slice-reshare-prefix-step (c .before)))
 
-step-requires : tie.Need-step-requires
-step-requires c κs = search needs
-
-state-after-requires : tie.Need-state-after-requires
-state-after-requires c κs = search needs
-
 slice-reshare-prefix-step-2 : tie.Need-slice-reshare-prefix-step-2
 unfolding held-by
 slice-reshare-prefix-step-2 c = rw (c .if1 .left) at (c .before .before .before .before .before .pre)
 
 slice-aggregate-step-2 : tie.Need-slice-aggregate-step-2
 slice-aggregate-step-2 c = sym (length-take-le _ _ (slice-reshare-prefix-step-2 (c .before)))
-
-step-requires-2 : tie.Need-step-requires-2
-step-requires-2 c κs = search needs
-
-state-after-requires-2 : tie.Need-state-after-requires-2
-state-after-requires-2 c κs = search needs
-
-same-length : tie.Need-same-length
-same-length c = search needs
-
-same-length-2 : tie.Need-same-length-2
-same-length-2 c = search needs
 
 returns : tie.Need-returns
 returns c =
@@ -56,12 +38,6 @@ returns c =
     _
     (rw here)
     (rw here)
-
-same-length-3 : tie.Need-same-length-3
-same-length-3 c = search needs
-
-same-length-4 : tie.Need-same-length-4
-same-length-4 c = search needs
 
 returns-2 : tie.Need-returns-2
 returns-2 c =
@@ -86,15 +62,15 @@ advance-spec =
     (tie.spec
     slice-reshare-prefix-step
     slice-aggregate-step
-    step-requires
-    state-after-requires
+    (λ c κs. search needs)
+    (λ c κs. search needs)
     slice-reshare-prefix-step-2
     slice-aggregate-step-2
-    step-requires-2
-    state-after-requires-2
-    same-length
-    same-length-2
+    (λ c κs. search needs)
+    (λ c κs. search needs)
+    (λ c. search needs)
+    (λ c. search needs)
     returns
-    same-length-3
-    same-length-4
+    (λ c. search needs)
+    (λ c. search needs)
     returns-2)

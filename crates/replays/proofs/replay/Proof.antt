@@ -23,9 +23,6 @@ abbrev μ-loop : tie.MeasureT-loop
 μ-loop log first₀ second₀ rows₀ state₀ at₀ count₀ written₀ first second rows state at count written =
     length log - at
 
-reset-requires : tie.Need-reset-requires Inv-loop μ-loop
-reset-requires c κs = search needs
-
 loop-holds : tie.Need-loop-holds Inv-loop μ-loop
 loop-holds c =
     let a = c .before .before .before .before .before .args in
@@ -47,9 +44,6 @@ part-size-of-event-start c = omega arith
 
 part-size-of-event-end : tie.Need-part-size-of-event-end Inv-loop μ-loop
 part-size-of-event-end c = omega arith
-
-size-of-event-requires : tie.Need-size-of-event-requires Inv-loop μ-loop
-size-of-event-requires c κs = search needs
 
 -- its size, and that it is some bytes of what is left
 size : (c : tie.After-size-of-event Inv-loop μ-loop)
@@ -129,13 +123,13 @@ replay-spec =
     (tie.spec
     Inv-loop
     μ-loop
-    reset-requires
+    (λ c κs. search needs)
     loop-holds
     sub-loop
     sub-size-of-event
     part-size-of-event-start
     part-size-of-event-end
-    size-of-event-requires
+    (λ c κs. search needs)
     add-end
     sub-advance
     part-advance-start

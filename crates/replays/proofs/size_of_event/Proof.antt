@@ -10,12 +10,6 @@ use Rattle.replays.proofs.size_of_event.Tie as tie
 returns : tie.Need-returns
 returns c = omega (arith, event-size-le (now (c .before .before .args .log)))
 
-shared-slice-read-length-of-kind : tie.Need-shared-slice-read-length-of-kind
-shared-slice-read-length-of-kind c = search needs
-
-length-of-kind-requires : tie.Need-length-of-kind-requires
-length-of-kind-requires c κs = search needs
-
 returns-2 : tie.Need-returns-2
 unfolding kind-of
 returns-2 c = omega (arith, event-size-min (now (c .before .before .before .before .before .args .log)))
@@ -27,4 +21,4 @@ returns-3 c = omega (arith, event-size-min (now (c .before .before .before .befo
 pub size-of-event-spec : {M : Type 1} → statement M
 size-of-event-spec =
     tie.close
-    (tie.spec returns shared-slice-read-length-of-kind length-of-kind-requires returns-2 returns-3)
+    (tie.spec returns (λ c. search needs) (λ c κs. search needs) returns-2 returns-3)

@@ -14,51 +14,24 @@ returns : tie.Need-returns
 unfolding Rattle.model.specs.Scopes.combined-violation-scope
 returns c = rw (ne-eqb _ 1 (c .if1 .taken))
 
-kind-requires : tie.Need-kind-requires
-kind-requires c κs = search needs
-
 returns-2 : tie.Need-returns-2
 unfolding Rattle.model.specs.Scopes.combined-violation-scope
 returns-2 c = rw (denied (ap combined (c .before .kind .ensures)) (c .if2 .taken), and-false)
-
-ept-requires : tie.Need-ept-requires
-ept-requires c κs = search needs
-
-vpid-requires : tie.Need-vpid-requires
-vpid-requires c κs = search needs
-
-vpid-requires-2 : tie.Need-vpid-requires-2
-vpid-requires-2 c κs = search needs
 
 returns-3 : tie.Need-returns-3
 unfolding Rattle.model.specs.Scopes.combined-violation-scope
 returns-3 c =
     rw (denied (ap₂ eqb (c .before .before .vpid .ensures) (c .before .vpid2 .ensures)) (c .if3 .taken), and-false)
 
-pcid-requires : tie.Need-pcid-requires
-pcid-requires c κs = search needs
-
 returns-4 : tie.Need-returns-4
 unfolding Rattle.model.specs.Scopes.combined-violation-scope
 returns-4 c = rw (denied (ap₂ eqb (c .before .pcid .ensures) refl) (c .if4 .taken), and-false)
-
-ep4ta-requires : tie.Need-ep4ta-requires
-ep4ta-requires c κs = search needs
-
-is-current-ep4ta-requires : tie.Need-is-current-ep4ta-requires
-is-current-ep4ta-requires c κs = search needs
 
 returns-5 : tie.Need-returns-5
 unfolding Rattle.model.specs.Scopes.combined-violation-scope
 returns-5 c =
     let current = ap₂ is-current-ep4ta (c .before .before .before .before .before .before .before .before .ept .ensures) (c .before .before .ep4ta .ensures) in
     rw (denied (c .before .is-current-ep4ta .ensures ∙ current) (c .if5 .taken), and-false)
-
-page-requires : tie.Need-page-requires
-page-requires c κs = search needs
-
-is-covering-requires : tie.Need-is-covering-requires
-is-covering-requires c κs = search needs
 
 returns-6 : tie.Need-returns-6
 unfolding Rattle.model.specs.Scopes.combined-violation-scope
@@ -84,17 +57,17 @@ is-in-combined-violation-scope-spec =
     tie.close
     (tie.spec
     returns
-    kind-requires
+    (λ c κs. search needs)
     returns-2
-    ept-requires
-    vpid-requires
-    vpid-requires-2
+    (λ c κs. search needs)
+    (λ c κs. search needs)
+    (λ c κs. search needs)
     returns-3
-    pcid-requires
+    (λ c κs. search needs)
     returns-4
-    ep4ta-requires
-    is-current-ep4ta-requires
+    (λ c κs. search needs)
+    (λ c κs. search needs)
     returns-5
-    page-requires
-    is-covering-requires
+    (λ c κs. search needs)
+    (λ c κs. search needs)
     returns-6)

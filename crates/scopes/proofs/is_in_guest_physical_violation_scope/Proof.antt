@@ -8,33 +8,15 @@ use Rattle.scopes.proofs.Laws.{denied, passed}
 use Rattle.scopes.proofs.is_in_guest_physical_violation_scope.Statement.{statement}
 use Rattle.scopes.proofs.is_in_guest_physical_violation_scope.Tie as tie
 
-kind-requires : tie.Need-kind-requires
-kind-requires c κs = search needs
-
 returns : tie.Need-returns
 unfolding Rattle.model.specs.Scopes.guest-physical-violation-scope
 returns c = rw (denied (ap guest-physical (c .before .kind .ensures)) (c .if1 .taken))
-
-ept-requires : tie.Need-ept-requires
-ept-requires c κs = search needs
-
-ep4ta-requires : tie.Need-ep4ta-requires
-ep4ta-requires c κs = search needs
-
-is-current-ep4ta-requires : tie.Need-is-current-ep4ta-requires
-is-current-ep4ta-requires c κs = search needs
 
 returns-2 : tie.Need-returns-2
 unfolding Rattle.model.specs.Scopes.guest-physical-violation-scope
 returns-2 c =
     let current = ap₂ is-current-ep4ta (c .before .before .before .ept .ensures) (c .before .before .ep4ta .ensures) in
     rw (denied (c .before .is-current-ep4ta .ensures ∙ current) (c .if2 .taken), and-false)
-
-page-requires : tie.Need-page-requires
-page-requires c κs = search needs
-
-is-covering-requires : tie.Need-is-covering-requires
-is-covering-requires c κs = search needs
 
 returns-3 : tie.Need-returns-3
 unfolding Rattle.model.specs.Scopes.guest-physical-violation-scope
@@ -53,12 +35,12 @@ pub is-in-guest-physical-violation-scope-spec : {M : Type 1} → statement M
 is-in-guest-physical-violation-scope-spec =
     tie.close
     (tie.spec
-    kind-requires
+    (λ c κs. search needs)
     returns
-    ept-requires
-    ep4ta-requires
-    is-current-ep4ta-requires
+    (λ c κs. search needs)
+    (λ c κs. search needs)
+    (λ c κs. search needs)
     returns-2
-    page-requires
-    is-covering-requires
+    (λ c κs. search needs)
+    (λ c κs. search needs)
     returns-3)

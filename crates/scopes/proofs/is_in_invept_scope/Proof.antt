@@ -8,16 +8,10 @@ use Rattle.scopes.proofs.Laws.{denied, passed}
 use Rattle.scopes.proofs.is_in_invept_scope.Statement.{statement}
 use Rattle.scopes.proofs.is_in_invept_scope.Tie as tie
 
-kind-requires : tie.Need-kind-requires
-kind-requires c κs = search needs
-
 returns : tie.Need-returns
 unfolding Rattle.model.specs.Scopes.invept-scope
 returns c =
     rw (denied (ap (λ k. guest-physical k || combined k) (c .before .kind .ensures)) (c .if1 .taken))
-
-ep4ta-requires : tie.Need-ep4ta-requires
-ep4ta-requires c κs = search needs
 
 returns-2 : tie.Need-returns-2
 unfolding Rattle.model.specs.Scopes.invept-scope
@@ -41,4 +35,4 @@ returns-3 c =
 
 pub is-in-invept-scope-spec : {M : Type 1} → statement M
 is-in-invept-scope-spec =
-    tie.close (tie.spec kind-requires returns ep4ta-requires (λ c κs. tt) returns-2 returns-3)
+    tie.close (tie.spec (λ c κs. search needs) returns (λ c κs. search needs) (λ c κs. tt) returns-2 returns-3)

@@ -14,49 +14,22 @@ use Rattle.scopes.proofs.is_in_invlpg_scope.Tie as tie
 structure-or : {k l : ℕ} {a b : Bool} → k ≡ l → a ≡ b → (leb 4 k || a) ≡ (leb 4 l || b)
 structure-or same covered = ap₂ (λ (k : ℕ) (b : Bool). leb 4 k || b) same covered
 
-is-canonical-requires : tie.Need-is-canonical-requires
-is-canonical-requires c κs = search needs
-
 returns : tie.Need-returns
 unfolding Rattle.model.specs.Scopes.invlpg-scope
 returns c = rw (denied (c .before .is-canonical .ensures) (c .if1 .taken))
-
-is-tagged-requires : tie.Need-is-tagged-requires
-is-tagged-requires c κs = search needs
 
 returns-2 : tie.Need-returns-2
 unfolding Rattle.model.specs.Scopes.invlpg-scope
 returns-2 c = rw (denied (c .before .is-tagged .ensures) (c .if2 .taken), and-false)
 
-vpid-requires : tie.Need-vpid-requires
-vpid-requires c κs = search needs
-
-vpid-requires-2 : tie.Need-vpid-requires-2
-vpid-requires-2 c κs = search needs
-
 returns-3 : tie.Need-returns-3
 unfolding Rattle.model.specs.Scopes.invlpg-scope
 returns-3 c = rw (denied (ap₂ eqb (c .before .before .vpid .ensures) (c .before .vpid2 .ensures)) (c .if3 .taken), and-false)
-
-kind-requires : tie.Need-kind-requires
-kind-requires c κs = search needs
-
-page-requires : tie.Need-page-requires
-page-requires c κs = search needs
-
-is-covering-requires : tie.Need-is-covering-requires
-is-covering-requires c κs = search needs
 
 returns-4 : tie.Need-returns-4
 unfolding Rattle.model.specs.Scopes.invlpg-scope
 returns-4 c =
     rw (denied (structure-or (c .before .before .before .kind .ensures) (c .before .is-covering .ensures ∙ ap (covers _ _) (c .before .before .page .ensures))) (c .if4 .taken), and-false)
-
-pcid-requires : tie.Need-pcid-requires
-pcid-requires c κs = search needs
-
-is-global-translation-requires : tie.Need-is-global-translation-requires
-is-global-translation-requires c κs = search needs
 
 returns-5 : tie.Need-returns-5
 unfolding Rattle.model.specs.Scopes.invlpg-scope
@@ -78,17 +51,17 @@ pub is-in-invlpg-scope-spec : {M : Type 1} → statement M
 is-in-invlpg-scope-spec =
     tie.close
     (tie.spec
-    is-canonical-requires
+    (λ c κs. search needs)
     returns
-    is-tagged-requires
+    (λ c κs. search needs)
     returns-2
-    vpid-requires
-    vpid-requires-2
+    (λ c κs. search needs)
+    (λ c κs. search needs)
     returns-3
-    kind-requires
-    page-requires
-    is-covering-requires
+    (λ c κs. search needs)
+    (λ c κs. search needs)
+    (λ c κs. search needs)
     returns-4
-    pcid-requires
-    is-global-translation-requires
+    (λ c κs. search needs)
+    (λ c κs. search needs)
     returns-5)

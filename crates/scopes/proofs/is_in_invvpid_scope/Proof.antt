@@ -7,24 +7,9 @@ use Rattle.scopes.proofs.Laws.{denied, passed}
 use Rattle.scopes.proofs.is_in_invvpid_scope.Statement.{statement}
 use Rattle.scopes.proofs.is_in_invvpid_scope.Tie as tie
 
-is-tagged-requires : tie.Need-is-tagged-requires
-is-tagged-requires c κs = search needs
-
 returns : tie.Need-returns
 unfolding Rattle.model.specs.Scopes.invvpid-scope
 returns c = rw (denied (c .before .is-tagged .ensures) (c .if1 .taken))
-
-vpid-requires : tie.Need-vpid-requires
-vpid-requires c κs = search needs
-
-page-requires : tie.Need-page-requires
-page-requires c κs = search needs
-
-is-covering-requires : tie.Need-is-covering-requires
-is-covering-requires c κs = search needs
-
-is-global-translation-requires : tie.Need-is-global-translation-requires
-is-global-translation-requires c κs = search needs
 
 returns-2 : tie.Need-returns-2
 unfolding Rattle.model.specs.Scopes.invvpid-scope
@@ -82,12 +67,12 @@ pub is-in-invvpid-scope-spec : {M : Type 1} → statement M
 is-in-invvpid-scope-spec =
     tie.close
     (tie.spec
-    is-tagged-requires
+    (λ c κs. search needs)
     returns
-    vpid-requires
-    page-requires
-    is-covering-requires
-    is-global-translation-requires
+    (λ c κs. search needs)
+    (λ c κs. search needs)
+    (λ c κs. search needs)
+    (λ c κs. search needs)
     returns-2
     returns-3
     returns-4

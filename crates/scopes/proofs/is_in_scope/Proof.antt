@@ -4,64 +4,6 @@ use borrow.Author.Tests.{ne-eqb}
 use Rattle.scopes.proofs.is_in_scope.Statement.{statement}
 use Rattle.scopes.proofs.is_in_scope.Tie as tie
 
-enum-told : tie.Need-enum-told
-enum-told c = search needs
-
-enum-known-e : tie.Need-enum-known-e
-enum-known-e c = search needs
-
-is-in-invvpid-scope-requires : tie.Need-is-in-invvpid-scope-requires
-is-in-invvpid-scope-requires c κs = search needs
-
-enum-known-e-2 : tie.Need-enum-known-e-2
-enum-known-e-2 c = search needs
-
-is-in-invept-scope-requires : tie.Need-is-in-invept-scope-requires
-is-in-invept-scope-requires c κs = search needs
-
-enum-known-e-3 : tie.Need-enum-known-e-3
-enum-known-e-3 c = search needs
-
-is-in-invlpg-scope-requires : tie.Need-is-in-invlpg-scope-requires
-is-in-invlpg-scope-requires c κs = search needs
-
-enum-known-e-4 : tie.Need-enum-known-e-4
-enum-known-e-4 c = search needs
-
-is-in-guest-physical-violation-scope-requires :
-    tie.Need-is-in-guest-physical-violation-scope-requires
-is-in-guest-physical-violation-scope-requires c κs = search needs
-
-is-in-combined-violation-scope-requires : tie.Need-is-in-combined-violation-scope-requires
-is-in-combined-violation-scope-requires c κs = search needs
-
-enum-known-e-5 : tie.Need-enum-known-e-5
-enum-known-e-5 c = search needs
-
-is-in-transition-scope-requires : tie.Need-is-in-transition-scope-requires
-is-in-transition-scope-requires c κs = search needs
-
-enum-told-2 : tie.Need-enum-told-2
-enum-told-2 c = search needs
-
-vpid-requires : tie.Need-vpid-requires
-vpid-requires c κs = search needs
-
-is-in-transition-scope-requires-2 : tie.Need-is-in-transition-scope-requires-2
-is-in-transition-scope-requires-2 c κs = search needs
-
-enum-told-3 : tie.Need-enum-told-3
-enum-told-3 c = search needs
-
-enum-told-4 : tie.Need-enum-told-4
-enum-told-4 c = search needs
-
-enum-told-5 : tie.Need-enum-told-5
-enum-told-5 c = search needs
-
-enum-told-6 : tie.Need-enum-told-6
-enum-told-6 c = search needs
-
 returns : tie.Need-returns
 unfolding Rattle.model.specs.Scopes.scope
 returns c = rw (c .enum-told .given .1)
@@ -128,25 +70,25 @@ pub is-in-scope-spec : {M : Type 1} → statement M
 is-in-scope-spec =
     tie.close
     (tie.spec
-    enum-told
-    enum-known-e
-    is-in-invvpid-scope-requires
-    enum-known-e-2
-    is-in-invept-scope-requires
-    enum-known-e-3
-    is-in-invlpg-scope-requires
-    enum-known-e-4
-    is-in-guest-physical-violation-scope-requires
-    is-in-combined-violation-scope-requires
-    enum-known-e-5
-    is-in-transition-scope-requires
-    enum-told-2
-    vpid-requires
-    is-in-transition-scope-requires-2
-    enum-told-3
-    enum-told-4
-    enum-told-5
-    enum-told-6
+    (λ c. search needs)
+    (λ c. search needs)
+    (λ c κs. search needs)
+    (λ c. search needs)
+    (λ c κs. search needs)
+    (λ c. search needs)
+    (λ c κs. search needs)
+    (λ c. search needs)
+    (λ c κs. search needs)
+    (λ c κs. search needs)
+    (λ c. search needs)
+    (λ c κs. search needs)
+    (λ c. search needs)
+    (λ c κs. search needs)
+    (λ c κs. search needs)
+    (λ c. search needs)
+    (λ c. search needs)
+    (λ c. search needs)
+    (λ c. search needs)
     returns
     returns-2
     returns-3

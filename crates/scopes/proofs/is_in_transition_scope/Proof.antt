@@ -4,15 +4,9 @@ use Rattle.scopes.proofs.Laws.{denied, passed}
 use Rattle.scopes.proofs.is_in_transition_scope.Statement.{statement}
 use Rattle.scopes.proofs.is_in_transition_scope.Tie as tie
 
-is-tagged-requires : tie.Need-is-tagged-requires
-is-tagged-requires c κs = search needs
-
 returns : tie.Need-returns
 unfolding Rattle.model.specs.Scopes.transition-scope
 returns c = rw (denied (c .before .is-tagged .ensures) (c .if1 .taken))
-
-vpid-requires : tie.Need-vpid-requires
-vpid-requires c κs = search needs
 
 returns-2 : tie.Need-returns-2
 unfolding Rattle.model.specs.Scopes.transition-scope
@@ -20,4 +14,4 @@ returns-2 c = rw (passed (c .before .before .is-tagged .ensures) (c .before .if1
 
 pub is-in-transition-scope-spec : {M : Type 1} → statement M
 is-in-transition-scope-spec =
-    tie.close (tie.spec is-tagged-requires returns vpid-requires returns-2)
+    tie.close (tie.spec (λ c κs. search needs) returns (λ c κs. search needs) returns-2)

@@ -3,11 +3,8 @@ use borrow.Author.Needs.{needs}
 use Rattle.scopes.proofs.is_tagged.Statement.{statement}
 use Rattle.scopes.proofs.is_tagged.Tie as tie
 
-kind-requires : tie.Need-kind-requires
-kind-requires c κs = search needs
-
 returns : tie.Need-returns
 returns c = rw (c .kind .ensures)
 
 pub is-tagged-spec : {M : Type 1} → statement M
-is-tagged-spec = tie.close (tie.spec kind-requires returns)
+is-tagged-spec = tie.close (tie.spec (λ c κs. search needs) returns)

@@ -4,45 +4,6 @@ use Rattle.scopes.specs.NoScope.{without-scope}
 use Rattle.scopes.proofs.is_without_scope.Statement.{statement}
 use Rattle.scopes.proofs.is_without_scope.Tie as tie
 
-enum-known-e : tie.Need-enum-known-e
-enum-known-e c = search needs
-
-is-canonical-requires : tie.Need-is-canonical-requires
-is-canonical-requires c κs = search needs
-
-enum-known-e-2 : tie.Need-enum-known-e-2
-enum-known-e-2 c = search needs
-
-enum-told : tie.Need-enum-told
-enum-told c = search needs
-
-vpid-requires : tie.Need-vpid-requires
-vpid-requires c κs = search needs
-
-enum-told-2 : tie.Need-enum-told-2
-enum-told-2 c = search needs
-
-enum-told-3 : tie.Need-enum-told-3
-enum-told-3 c = search needs
-
-enum-told-4 : tie.Need-enum-told-4
-enum-told-4 c = search needs
-
-enum-told-5 : tie.Need-enum-told-5
-enum-told-5 c = search needs
-
-enum-told-6 : tie.Need-enum-told-6
-enum-told-6 c = search needs
-
-enum-told-7 : tie.Need-enum-told-7
-enum-told-7 c = search needs
-
-enum-told-8 : tie.Need-enum-told-8
-enum-told-8 c = search needs
-
-enum-told-9 : tie.Need-enum-told-9
-enum-told-9 c = search needs
-
 returns : tie.Need-returns
 unfolding without-scope
 returns c = rw (c .before .before .e .given .1, c .is-canonical .ensures)
@@ -91,19 +52,19 @@ pub is-without-scope-spec : {M : Type 1} → statement M
 is-without-scope-spec =
     tie.close
     (tie.spec
-    enum-known-e
-    is-canonical-requires
-    enum-known-e-2
-    enum-told
-    vpid-requires
-    enum-told-2
-    enum-told-3
-    enum-told-4
-    enum-told-5
-    enum-told-6
-    enum-told-7
-    enum-told-8
-    enum-told-9
+    (λ c. search needs)
+    (λ c κs. search needs)
+    (λ c. search needs)
+    (λ c. search needs)
+    (λ c κs. search needs)
+    (λ c. search needs)
+    (λ c. search needs)
+    (λ c. search needs)
+    (λ c. search needs)
+    (λ c. search needs)
+    (λ c. search needs)
+    (λ c. search needs)
+    (λ c. search needs)
     returns
     returns-2
     returns-3

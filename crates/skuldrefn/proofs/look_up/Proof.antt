@@ -11,21 +11,9 @@ use Rattle.skuldrefn.specs.Flat.{flat-lookup}
 use Rattle.skuldrefn.proofs.look_up.Statement.{statement}
 use Rattle.skuldrefn.proofs.look_up.Tie as tie
 
-is-known-requires : tie.Need-is-known-requires
-is-known-requires c κs = search needs
-
 returns : tie.Need-returns
 unfolding flat-lookup
 returns c = rw (sym (c .before .is-known .ensures) ∙ not-true _ (c .if1 .taken))
-
-context-of-requires : tie.Need-context-of-requires
-context-of-requires c κs = search needs
-
-find-requires : tie.Need-find-requires
-find-requires c κs = search needs
-
-sub-length : tie.Need-sub-length
-sub-length c = search needs
 
 returns-2 : tie.Need-returns-2
 unfolding flat-lookup
@@ -41,4 +29,5 @@ returns-2 c =
 pub look-up-spec : {M : Type 1} → statement M
 look-up-spec =
     tie.close
-    (tie.spec is-known-requires returns context-of-requires find-requires sub-length returns-2)
+    (tie.spec
+    (λ c κs. search needs) returns (λ c κs. search needs) (λ c κs. search needs) (λ c. search needs) returns-2)

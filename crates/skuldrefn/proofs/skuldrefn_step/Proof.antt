@@ -6,26 +6,11 @@ use borrow.Author.Needs.{needs}
 use Rattle.skuldrefn.proofs.skuldrefn_step.Statement.{statement}
 use Rattle.skuldrefn.proofs.skuldrefn_step.Tie as tie
 
-is-known-requires : tie.Need-is-known-requires
-is-known-requires c κs = search needs
-
 returns : tie.Need-returns
 unfolding flat-step flat-written
 returns c =
     let unknown = sym (c .before .is-known .ensures) ∙ not-true _ (c .if1 .taken) in
     rw unknown (refl, refl)
-
-context-of-requires : tie.Need-context-of-requires
-context-of-requires c κs = search needs
-
-step-requires : tie.Need-step-requires
-step-requires c κs = search needs
-
-flat-context-requires : tie.Need-flat-context-requires
-flat-context-requires c κs = search needs
-
-same-length : tie.Need-same-length
-same-length c = search needs
 
 returns-2 : tie.Need-returns-2
 unfolding flat-step flat-written
@@ -34,9 +19,6 @@ returns-2 c =
     let told = c .before .before .before .before .before .before .step .ensures in
     let is = c .before .before .before .before .before .before .before .before .context-of .ensures in
     (rw (known, ← is, ← (told .0), c .before .before .if2 .taken, c .flat-context .ensures), rw (known, ← is) (told .1))
-
-same-length-2 : tie.Need-same-length-2
-same-length-2 c = search needs
 
 returns-3 : tie.Need-returns-3
 unfolding flat-step flat-written
@@ -50,12 +32,12 @@ pub skuldrefn-step-spec : {M : Type 1} → statement M
 skuldrefn-step-spec =
     tie.close
     (tie.spec
-    is-known-requires
+    (λ c κs. search needs)
     returns
-    context-of-requires
-    step-requires
-    flat-context-requires
-    same-length
+    (λ c κs. search needs)
+    (λ c κs. search needs)
+    (λ c κs. search needs)
+    (λ c. search needs)
     returns-2
-    same-length-2
+    (λ c. search needs)
     returns-3)

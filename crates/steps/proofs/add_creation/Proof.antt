@@ -13,9 +13,6 @@ use Rattle.steps.proofs.Laws.{created-creation, created-other, copied-w
 use Rattle.steps.proofs.add_creation.Statement.{statement}
 use Rattle.steps.proofs.add_creation.Tie as tie
 
-is-creation-requires : tie.Need-is-creation-requires
-is-creation-requires c κs = search needs
-
 returns : tie.Need-returns
 returns c =
     let a = c .before .before .before .before .args in
@@ -28,9 +25,6 @@ whole c = created-creation _ (sym (c .before .is-creation .ensures) ∙ not-fals
 
 copy-run-requires : tie.Need-copy-run-requires
 copy-run-requires c κs = (omega arith, (omega arith, omega (arith, ap length (whole (c .before)))))
-
-same-length : tie.Need-same-length
-same-length c = search needs
 
 returns-2 : tie.Need-returns-2
 returns-2 c =
@@ -45,4 +39,4 @@ returns-2 c =
 
 pub add-creation-spec : {M : Type 1} → statement M
 add-creation-spec =
-    tie.close (tie.spec is-creation-requires returns copy-run-requires same-length returns-2)
+    tie.close (tie.spec (λ c κs. search needs) returns copy-run-requires (λ c. search needs) returns-2)

@@ -6,9 +6,6 @@ use Rattle.steps.proofs.Laws.{created-creation, created-other}
 use Rattle.steps.proofs.created_length.Statement.{statement}
 use Rattle.steps.proofs.created_length.Tie as tie
 
-is-creation-requires : tie.Need-is-creation-requires
-is-creation-requires c κs = search needs
-
 returns : tie.Need-returns
 returns c = sym (ap length (created-creation _ (sym (c .before .is-creation .ensures) ∙ c .if1 .taken)))
 
@@ -16,4 +13,4 @@ returns-2 : tie.Need-returns-2
 returns-2 c = sym (ap length (created-other _ (sym (c .before .is-creation .ensures) ∙ c .if1 .left)))
 
 pub created-length-spec : {M : Type 1} → statement M
-created-length-spec = tie.close (tie.spec is-creation-requires returns returns-2)
+created-length-spec = tie.close (tie.spec (λ c κs. search needs) returns returns-2)

@@ -13,12 +13,9 @@ returns : tie.Need-returns
 unfolding kind-of mapping-kind
 returns c = rw (List·getD-eq-default (now (c .before .args .e)) 0 {n = 0} (omega arith))
 
-shared-slice-read-kind : tie.Need-shared-slice-read-kind
-shared-slice-read-kind c = search needs
-
 returns-2 : tie.Need-returns-2
 unfolding kind-of
 returns-2 c = sym (mapping-kind-range _)
 
 pub is-creation-spec : {M : Type 1} → statement M
-is-creation-spec = tie.close (tie.spec returns shared-slice-read-kind returns-2)
+is-creation-spec = tie.close (tie.spec returns (λ c. search needs) returns-2)

@@ -9,9 +9,6 @@ use Rattle.steps.proofs.Laws.{length-created, ltb-min}
 use Rattle.steps.proofs.is_without_room.Statement.{statement}
 use Rattle.steps.proofs.is_without_room.Tie as tie
 
-created-length-requires : tie.Need-created-length-requires
-created-length-requires c κs = search needs
-
 add-needed : tie.Need-add-needed
 add-needed c = omega (arith, length-created (now (c .before .before .before .args .e)), c .created-length .ensures)
 
@@ -22,4 +19,4 @@ returns c =
     rw (c .created-length .ensures) (ltb-min (a .room) 45056 (length (now (a .table)) + length (created (now (a .e)))))
 
 pub is-without-room-spec : {M : Type 1} → statement M
-is-without-room-spec = tie.close (tie.spec created-length-requires add-needed returns)
+is-without-room-spec = tie.close (tie.spec (λ c κs. search needs) add-needed returns)

@@ -12,20 +12,11 @@ use Rattle.steps.proofs.Laws.{new-table-kept, dropped-count-kept, overw
 use Rattle.steps.proofs.perform.Statement.{statement}
 use Rattle.steps.proofs.perform.Tie as tie
 
-keep-counted-requires : tie.Need-keep-counted-requires
-keep-counted-requires c κs = search needs
-
 add-creation-requires : tie.Need-add-creation-requires
 add-creation-requires c κs =
     let a = c .before .before .before .before .before .before .before .before .args in
     let k = c .before .before .before .keep-counted .ensures in
     omega (arith, k .length, kept-length (a .c) (a .e) (now (a .table)), c .before .before .before .keep-counted .kept .1 .1 .1 .1 .0)
-
-context-after-requires : tie.Need-context-after-requires
-context-after-requires c κs = search needs
-
-same-length : tie.Need-same-length
-same-length c = search needs
 
 returns : tie.Need-returns
 returns c =
@@ -44,4 +35,4 @@ returns c =
 pub perform-spec : {M : Type 1} → statement M
 perform-spec =
     tie.close
-    (tie.spec keep-counted-requires add-creation-requires context-after-requires same-length returns)
+    (tie.spec (λ c κs. search needs) add-creation-requires (λ c κs. search needs) (λ c. search needs) returns)

@@ -13,12 +13,6 @@ use Rattle.steps.proofs.Laws.{step-refused, step-accepted, room-left}
 use Rattle.steps.proofs.step.Statement.{statement}
 use Rattle.steps.proofs.step.Tie as tie
 
-judge-requires : tie.Need-judge-requires
-judge-requires c κs = search needs
-
-refused-requires : tie.Need-refused-requires
-refused-requires c κs = search needs
-
 returns : tie.Need-returns
 returns c =
     let a = c .before .before .before .before .before .before .before .args in
@@ -28,18 +22,6 @@ returns c =
     let is = c .before .before .before .judge .ensures .0 in
     let some = c .before .if1 .taken in
     step-refused (a .c) t e b _ (answer-of-table (a .c) t e (length b) (λ z. some (is ∙ z)) ∙ sym is) some _ (c .refused .ensures)
-
-read-event-requires : tie.Need-read-event-requires
-read-event-requires c κs = search needs
-
-enum-known-e : tie.Need-enum-known-e
-enum-known-e c = search needs
-
-enum-told : tie.Need-enum-told
-enum-told c = search needs
-
-refused-requires-2 : tie.Need-refused-requires-2
-refused-requires-2 c κs = search needs
 
 returns-2 : tie.Need-returns-2
 returns-2 c =
@@ -56,12 +38,6 @@ valid : (c : tie.After-known-told)
     → (Rattle.model.specs.Events.valid-event (now (c .before .before .before .before .before .before .before .before .before .before .args .event)) ≡ mathlib.Core.Bool.true) × (c .before .e .given .0 .0 ≡ event (now (c .before .before .before .before .before .before .before .before .before .before .args .event)))
 valid c = valid-event-read _ _ (sym (c .before .before .before .read-event .ensures) ∙ c .before .e .given .1)
 
-answer-to-event-requires : tie.Need-answer-to-event-requires
-answer-to-event-requires c κs = search needs
-
-refused-requires-3 : tie.Need-refused-requires-3
-refused-requires-3 c κs = search needs
-
 returns-3 : tie.Need-returns-3
 returns-3 c =
     let a = c .before .before .before .before .before .before .before .before .before .before .before .before .before .args in
@@ -73,12 +49,6 @@ returns-3 c =
     let is = c .before .before .answer-to-event .ensures ∙ ap (event-answer (a .c)) (read .1) in
     let some = c .before .if2 .taken in
     step-refused (a .c) t e b _ (answer-of-event (a .c) t e (length b) none (read .0) (λ z. some (is ∙ z)) ∙ sym is) some _ (c .refused3 .ensures)
-
-is-without-room-requires : tie.Need-is-without-room-requires
-is-without-room-requires c κs = search needs
-
-refused-requires-4 : tie.Need-refused-requires-4
-refused-requires-4 c κs = search needs
 
 returns-4 : tie.Need-returns-4
 returns-4 c =
@@ -101,9 +71,6 @@ perform-requires c κs =
     let counted = c .before .before .before .before .before .before .before .before .before .before .before .judge .ensures .1 ∙ judged-records-whole (a .c) (now (a .table)) none in
     (valid (c .before .before .before .before .before) .1, (left .0, (counted, left .1)))
 
-same-length : tie.Need-same-length
-same-length c = search needs
-
 returns-5 : tie.Need-returns-5
 returns-5 c =
     let a = c .before .before .before .before .before .before .before .before .before .before .before .before .before .before .before .before .before .before .args in
@@ -121,20 +88,20 @@ pub step-spec : {M : Type 1} → statement M
 step-spec =
     tie.close
     (tie.spec
-    judge-requires
-    refused-requires
+    (λ c κs. search needs)
+    (λ c κs. search needs)
     returns
-    read-event-requires
-    enum-known-e
-    enum-told
-    refused-requires-2
+    (λ c κs. search needs)
+    (λ c. search needs)
+    (λ c. search needs)
+    (λ c κs. search needs)
     returns-2
-    answer-to-event-requires
-    refused-requires-3
+    (λ c κs. search needs)
+    (λ c κs. search needs)
     returns-3
-    is-without-room-requires
-    refused-requires-4
+    (λ c κs. search needs)
+    (λ c κs. search needs)
     returns-4
     perform-requires
-    same-length
+    (λ c. search needs)
     returns-5)

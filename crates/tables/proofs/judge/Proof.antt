@@ -23,9 +23,6 @@ accepted : (c : Context) (t : List ℕ) {n : ℕ} → _≡_ {A = ℕ} 0 (first (
     → (_≡_ {A = ℕ} 0 (first (table-grounds c t))) × (n ≡ judged-records c t)
 accepted c t is counted = (is, counted ∙ sym (judged-records-whole c t (sym is)))
 
-is-in-range-requires : tie.Need-is-in-range-requires
-is-in-range-requires c κs = search needs
-
 returns : tie.Need-returns
 unfolding first table-grounds
 returns c =
@@ -35,9 +32,6 @@ returns-2 : tie.Need-returns-2
 unfolding first table-grounds
 returns-2 c =
     refused _ _ (rw (← c .before .before .is-in-range .ensures, c .before .if1 .left, lt-ltb _ _ (c .if2 .taken))) (omega arith)
-
-walk-requires : tie.Need-walk-requires
-walk-requires c κs = search needs
 
 returns-3 : tie.Need-returns-3
 unfolding first table-grounds whole
@@ -60,4 +54,4 @@ returns-4 c =
 
 pub judge-spec : {M : Type 1} → statement M
 judge-spec =
-    tie.close (tie.spec is-in-range-requires returns returns-2 walk-requires returns-3 returns-4)
+    tie.close (tie.spec (λ c κs. search needs) returns returns-2 (λ c κs. search needs) returns-3 returns-4)

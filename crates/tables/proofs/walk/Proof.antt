@@ -17,18 +17,6 @@ abbrev μ-loop : tie.MeasureT-loop
 loop-holds : tie.Need-loop-holds Inv-loop μ-loop
 loop-holds c = walk-start _
 
-sub-length-of-record : tie.Need-sub-length-of-record Inv-loop μ-loop
-sub-length-of-record c = search needs
-
-part-length-of-record-start : tie.Need-part-length-of-record-start Inv-loop μ-loop
-part-length-of-record-start c = search needs
-
-part-length-of-record-end : tie.Need-part-length-of-record-end Inv-loop μ-loop
-part-length-of-record-end c = search needs
-
-length-of-record-requires : tie.Need-length-of-record-requires Inv-loop μ-loop
-length-of-record-requires c κs = search needs
-
 returns : tie.Need-returns Inv-loop μ-loop
 returns c = walk-stop (c .before .before .before .before .loop .inv) (c .before .length-of-record .ensures) (c .if1 .taken)
 
@@ -54,10 +42,10 @@ walk-spec =
     Inv-loop
     μ-loop
     loop-holds
-    sub-length-of-record
-    part-length-of-record-start
-    part-length-of-record-end
-    length-of-record-requires
+    (λ c. search needs)
+    (λ c. search needs)
+    (λ c. search needs)
+    (λ c κs. search needs)
     returns
     add-at
     add-records

@@ -3,60 +3,6 @@ use borrow.Author.Needs.{needs}
 use Rattle.transitions.proofs.context_after.Statement.{statement}
 use Rattle.transitions.proofs.context_after.Tie as tie
 
-enum-known-e : tie.Need-enum-known-e
-enum-known-e c = search needs
-
-place-entered-requires : tie.Need-place-entered-requires
-place-entered-requires c κs = search needs
-
-moved-to-requires : tie.Need-moved-to-requires
-moved-to-requires c κs = search needs
-
-enum-known-e-2 : tie.Need-enum-known-e-2
-enum-known-e-2 c = search needs
-
-moved-to-requires-2 : tie.Need-moved-to-requires-2
-moved-to-requires-2 c κs = search needs
-
-enum-told : tie.Need-enum-told
-enum-told c = search needs
-
-moved-to-requires-3 : tie.Need-moved-to-requires-3
-moved-to-requires-3 c κs = search needs
-
-enum-told-2 : tie.Need-enum-told-2
-enum-told-2 c = search needs
-
-moved-to-requires-4 : tie.Need-moved-to-requires-4
-moved-to-requires-4 c κs = search needs
-
-enum-known-e-3 : tie.Need-enum-known-e-3
-enum-known-e-3 c = search needs
-
-moved-to-requires-5 : tie.Need-moved-to-requires-5
-moved-to-requires-5 c κs = search needs
-
-enum-told-3 : tie.Need-enum-told-3
-enum-told-3 c = search needs
-
-reset-requires : tie.Need-reset-requires
-reset-requires c κs = search needs
-
-enum-told-4 : tie.Need-enum-told-4
-enum-told-4 c = search needs
-
-enum-told-5 : tie.Need-enum-told-5
-enum-told-5 c = search needs
-
-enum-told-6 : tie.Need-enum-told-6
-enum-told-6 c = search needs
-
-enum-told-7 : tie.Need-enum-told-7
-enum-told-7 c = search needs
-
-enum-told-8 : tie.Need-enum-told-8
-enum-told-8 c = search needs
-
 returns : tie.Need-returns
 unfolding Rattle.model.specs.Scopes.next-context
 returns c = rw (c .before .before .before .e .given .1, ← c .before .place-entered .ensures) (c .moved-to .ensures)
@@ -105,24 +51,24 @@ pub context-after-spec : {M : Type 1} → statement M
 context-after-spec =
     tie.close
     (tie.spec
-    enum-known-e
-    place-entered-requires
-    moved-to-requires
-    enum-known-e-2
-    moved-to-requires-2
-    enum-told
-    moved-to-requires-3
-    enum-told-2
-    moved-to-requires-4
-    enum-known-e-3
-    moved-to-requires-5
-    enum-told-3
-    reset-requires
-    enum-told-4
-    enum-told-5
-    enum-told-6
-    enum-told-7
-    enum-told-8
+    (λ c. search needs)
+    (λ c κs. search needs)
+    (λ c κs. search needs)
+    (λ c. search needs)
+    (λ c κs. search needs)
+    (λ c. search needs)
+    (λ c κs. search needs)
+    (λ c. search needs)
+    (λ c κs. search needs)
+    (λ c. search needs)
+    (λ c κs. search needs)
+    (λ c. search needs)
+    (λ c κs. search needs)
+    (λ c. search needs)
+    (λ c. search needs)
+    (λ c. search needs)
+    (λ c. search needs)
+    (λ c. search needs)
     returns
     returns-2
     returns-3
