@@ -1,8 +1,8 @@
-// The cards of document 01, its five mistakes and the reasons of document 02, run on the code. They come from standard input, the
-// file stdin, and what is expected, the file stdout, was written from the document; tools/cards.py has
-// the format. Each line is a card's name, the answer, the dropped count, the length, the context's eight
-// numbers, and the new buffer, which held ee in every byte; for a lookup the answer, the start, the
-// length and the part; for a reason (document 02, Ask 1) its number and its answer.
+// The cards of document 01, its five mistakes and the reasons of document 02, run on the code. They come
+// from standard input, the file stdin, and what is expected, the file stdout, was written from the
+// documents; tools/cards.py has the format. Each line is a card's name, then of a step the answer, the
+// dropped count, the length, the context's eight numbers and the new buffer, which held ee in every byte;
+// of a lookup the answer, the start, the length and the part; of a reason its number and its answer.
 use libc::STDIN_FILENO;
 use libc::STDOUT_FILENO;
 use model::Address;
