@@ -1,7 +1,8 @@
 #!/bin/sh
 # check.sh LIBDIR REPLAY: the quick checks of outside/ on LIBDIR/libskuldrefn.a,
-# which `rt staticlib skuldrefn` writes, and on the replay program. Needs cargo,
-# rustc and cc, and no network.
+# which `rt staticlib skuldrefn` writes, and on the replay program; and those of
+# the repository's own files. Needs cargo, rustc and cc, and no network; without
+# cargo fmt or cargo clippy those two checks are left out, and a line says so.
 # Prints little; what failed is printed whole. The last line, only if all
 # passed: 'outside: N checks passed'.
 set -u
@@ -22,7 +23,8 @@ for tool in cargo rustc cc; do
     command -v "$tool" >/dev/null 2>&1 || stop "$tool is not on the PATH" 2
 done
 SKULDREFN_LIB=$(cd "$1" && pwd) || exit 2
-export SKULDREFN_LIB
+SKULDREFN_REPLAY=$replay
+export SKULDREFN_LIB SKULDREFN_REPLAY
 cd "$(dirname "$0")" || exit 2
 
 tmp=$(mktemp -d) || exit 2
@@ -38,7 +40,35 @@ run() {
     stop "$name failed"
 }
 
+# has WORD: whether this cargo has the command; where not, a line says what was not checked.
+has() {
+    cargo "$1" --version >/dev/null 2>&1 && return
+    echo "outside: LEFT OUT: there is no cargo $1 on this machine"
+    return 1
+}
+
+# A check of the repository's own files; the program prints what is amiss.
+files() {
+    run "tools $1" cargo run --offline --release -q -p tools -- "$1" ..
+    echo "outside: $(cat "$tmp/log")"
+}
+
 run 'the build' cargo build --offline --release --workspace --all-targets
+
+files edits
+files crates
+files cards
+checks=3
+
+if has fmt; then
+    run 'cargo fmt' cargo fmt --all --check
+    checks=$((checks + 1))
+fi
+if has clippy; then
+    run 'cargo clippy' cargo clippy --offline --release --workspace --all-targets -- -D warnings
+    checks=$((checks + 1))
+fi
+
 run 'cargo test' cargo test --offline --release --workspace
 tests=$(awk '/^test result: ok/ { sum += $4 } END { print sum + 0 }' "$tmp/log")
 [ "$tests" -gt 0 ] || stop 'cargo test ran no tests'
@@ -56,4 +86,4 @@ run 'the C example' diff "$tmp/lines" ../examples/five-events.expected
 run 'the replay program' cargo run --offline --release -q -p program -- "$replay" ../examples
 cat "$tmp/log"
 
-echo "outside: $((tests + 3)) checks passed"
+echo "outside: $((tests + checks + 3)) checks passed"

@@ -2,8 +2,8 @@
  * skuldrefn.h: the proved model of the translations that a processor caches
  * under VMX, for programs in C.
  *
- * Link with libskuldrefn.a (x86-64 Linux), which `rt staticlib skuldrefn`
- * writes to target/staticlib/. Besides it only the C library is needed.
+ * Link with libskuldrefn.a (x86-64 Linux); `./skuldrefn library` builds it and
+ * says where it is. Besides it only the C library is needed.
  *
  * Ownership. Every buffer is the caller's. A function reads and writes it
  * during the call only, within the length that comes with it, and keeps
@@ -17,9 +17,11 @@
  * Every other input is answered: any number in any field, any bytes in a
  * table, a record, an event or a log, and any length of a buffer.
  *
- * Tables, events and the fields below are those of document 01 ("Mapping
- * records", "Events", "Context"): one byte of kind, then a body whose length
- * the kind fixes; little-endian.
+ * What the model does, rule by rule, is in docs/MODEL.md. A record or an event
+ * is one byte of kind, then a body whose fields and length the kind fixes;
+ * numbers are little-endian, and nothing is between the fields. A table is
+ * mapping records end to end, a log is events end to end. The layouts are below,
+ * with the kinds.
  */
 #ifndef SKULDREFN_H
 #define SKULDREFN_H
@@ -34,8 +36,59 @@ extern "C" {
 /* The longest table, in bytes. */
 #define SKULDREFN_TABLE_LIMIT 45056
 
+/* The longest event, in bytes. */
+#define SKULDREFN_EVENT_LIMIT 25
+
 /* The bytes of one row that skuldrefn_replay writes. */
 #define SKULDREFN_ROW 24
+
+/*
+ * What the replay program has: its IA32_VMX_EPT_VPID_CAP, bits 6, 8, 14, 20,
+ * 21, 25, 26, 32 and 40 to 43; its physical width N; and the longest log that it
+ * reads, in bytes. The functions below take any capability, width and length.
+ */
+#define SKULDREFN_PROGRAM_CAPABILITY UINT64_C(0xF0106304140)
+#define SKULDREFN_PROGRAM_WIDTH 52
+#define SKULDREFN_LOG_LIMIT 65536
+
+/*
+ * The kinds of mapping records. As an event such a record says that this mapping
+ * was created. In each comment: the length with the kind byte, then the fields in
+ * their order, each with the byte at which it starts, from 0; a field ends where
+ * the next one starts.
+ *
+ * VPID and PCID have 2 bytes (the PCID is at most 4,095), global 1 (0 or 1), span 1
+ * (0 to 2 for kinds 1 to 3, 1 to 3 for kinds 4 to 6), page 5 (bits 47 to 12 of the
+ * address, a multiple of 2^(9 span)), frame and structure 5 (any), EP4TA 5 (bits 51
+ * to 12 of the EPTP).
+ */
+enum {
+    SKULDREFN_KIND_LINEAR = 1, /* 17: VPID 1, PCID 3, global 5, span 6, page 7, frame 12 */
+    SKULDREFN_KIND_GUEST_PHYSICAL = 2, /* 17: EP4TA 1, span 6, page 7, frame 12 */
+    SKULDREFN_KIND_COMBINED = 3, /* 22: VPID 1, PCID 3, global 5, span 6, page 7, frame 12, EP4TA 17 */
+    SKULDREFN_KIND_LINEAR_STRUCTURE = 4, /* 16: VPID 1, PCID 3, span 5, page 6, structure 11 */
+    SKULDREFN_KIND_GUEST_PHYSICAL_STRUCTURE = 5, /* 17: EP4TA 1, span 6, page 7, structure 12 */
+    SKULDREFN_KIND_COMBINED_STRUCTURE = 6 /* 21: VPID 1, PCID 3, span 5, page 6, structure 11, EP4TA 16 */
+};
+
+/*
+ * The kinds of the other events. Types, addresses, EPTPs and descriptor halves
+ * have 8 bytes, VPID and PCID 2, CPL and flags 1. The low half of INVVPID's
+ * descriptor is the VPID, its high half the address; the low half of INVEPT's
+ * descriptor is the EPTP, its high half 0.
+ */
+enum {
+    SKULDREFN_KIND_INVVPID = 16, /* 25: type 1, low half 9, high half 17 */
+    SKULDREFN_KIND_INVEPT = 17, /* 25: type 1, low half 9, high half 17 */
+    SKULDREFN_KIND_INVLPG = 18, /* 9: linear address 1 */
+    SKULDREFN_KIND_EPT_VIOLATION = 19, /* 18: guest-physical address 1, linear flag 9, linear address 10 */
+    SKULDREFN_KIND_VM_ENTRY = 20, /* 16: VPIDs enabled 1, VPID 2, EPT enabled 4, EPTP 5, PCID 13, CPL 15 */
+    SKULDREFN_KIND_VM_EXIT = 21, /* 3: host PCID 1 */
+    SKULDREFN_KIND_VMXON = 22, /* 1 */
+    SKULDREFN_KIND_VMXOFF = 23, /* 1 */
+    SKULDREFN_KIND_NEW_PCID = 24, /* 4: PCID 1, CPL 3 */
+    SKULDREFN_KIND_RESET = 25 /* 1 */
+};
 
 /*
  * The answers. The lowest number that applies is given, and only then.
@@ -180,6 +233,16 @@ skuldrefn_reason skuldrefn_explain(
     skuldrefn_context context,
     const uint8_t *record, size_t record_length,
     const uint8_t *event, size_t event_length);
+
+/*
+ * How long the first event of a log is, by its kind: the byte of kind and the
+ * body. 0 where the log has no byte or the kind is unknown. More than log_length
+ * where the record is cut. Of the log only the first byte is read.
+ *
+ * So a log is cut into the events that skuldrefn_replay takes: each has this many
+ * bytes; from an unknown kind or a cut record on, all that are left.
+ */
+size_t skuldrefn_event_length(const uint8_t *log, size_t log_length);
 
 /* What a replay reports. */
 typedef struct {

@@ -1,12 +1,12 @@
 // The cards of document 01, its five mistakes and the reasons of document 02, run on the code. They come
 // from standard input, the file stdin, and what is expected, the file stdout, was written from the
-// documents; tools/cards.py has the format. Each line is a card's name, then of a step the answer, the
+// documents; outside/tools has the format. Each line is a card's name, then of a step the answer, the
 // dropped count, the length, the context's eight numbers and the new buffer, which held ee in every byte;
 // of a lookup the answer, the start, the length and the part; of a reason its number and its answer.
+use flat_contexts::FlatContext;
 use libc::STDIN_FILENO;
 use libc::STDOUT_FILENO;
 use model::Address;
-use skuldrefn::FlatContext;
 use skuldrefn::FlatPart;
 ghost use Prim.Native.Nat.{_+_, _≤_};
 ghost use lib.ListN.{length};
@@ -77,7 +77,7 @@ fn look_up(c: FlatContext, mode: u8, table: &[u8], question: &[u8]) {
     }
     let address = numbers::number8(question, 0);
     let k = numbers::number8(question, 8);
-    let context = skuldrefn::context_of(c);
+    let context = flat_contexts::context_of(c);
     if mode == 1 {
         write_found(skuldrefn::skuldrefn_lookup_linear(c, table, address, k));
         write_hex(lookups::look_up(context, Address::Linear(address), table, k));

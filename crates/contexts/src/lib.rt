@@ -3,7 +3,7 @@ use model::Context;
 use model::Ept;
 use model::Place;
 ghost use mathlib.Core.Path.{_≡_};
-ghost use Rattle.model.specs.Context.{in-range, ept-in-range, place-in-range, current-vpid, current-ept};
+ghost use Rattle.model.specs.Context.{in-range, ept-in-range, place-in-range, in-guest, current-vpid, current-ept};
 ghost use Rattle.model.specs.Scopes.{is-current-ep4ta};
 
 // The EPT state is off, or an EP4TA below 2^40.
@@ -40,6 +40,17 @@ pub fn is_in_range(c: Context) -> bool
         & (c.pcid <= model::PCID_MAX)
         & (c.cpl <= 3)
         & is_place_in_range(place)
+}
+
+// The place is a guest.
+pub fn is_in_guest(place: Place) -> bool
+    ensures { λ r. ⌜ r ≡ in-guest place ⌝ }
+{
+    match place {
+        Place::Outside => false,
+        Place::Root => false,
+        Place::Guest(_) => true,
+    }
 }
 
 // The current VPID: the guest's, and 0 outside and in root.

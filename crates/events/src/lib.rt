@@ -4,187 +4,143 @@ use model::Event;
 use model::EventReading;
 use model::NewPcid;
 use model::Operands;
-use model::Reading;
 use model::Violation;
 ghost use mathlib.Core.Path.{_≡_};
-ghost use mathlib.Core.Bool.{true};
-ghost use mathlib.Core.Logic.{_⊎_};
-ghost use Rattle.model.specs.Layouts.{kind-of, mapping-kind};
-ghost use Rattle.model.specs.Events.{event-reading};
+ghost use lib.ListN.{length};
+ghost use Rattle.model.specs.Layouts.{kind-of, body-of, length-of};
+ghost use Rattle.model.specs.Events.{operands, violation, entry, new-pcid, event, event-in-range, valid-event, event-reading};
 
-// The creation that the bytes of a mapping's kind are.
-fn read_creation(e: &[u8]) -> EventReading
-    requires { ⌜ mapping-kind (kind-of (now e)) ≡ true ⌝ }
-    ensures { λ r. ⌜ r ≡ event-reading (now (e .entry)) ⌝ }
+// The operands of an INVVPID or INVEPT, whose bodies are alike.
+fn read_operands(e: &[u8]) -> Operands
+    requires { ⌜ (body-of (kind-of (now e)) ≡ body-of 16) × (length (now e) ≡ 25) ⌝ }
+    ensures { λ r. ⌜ r ≡ operands (now (e .entry)) ⌝ }
 {
-    match mappings::read_record(e) {
-        Reading::Record(mapping, length) => {
-            if length == e.len() {
-                EventReading::Read(Event::Creation(mapping))
-            } else {
-                EventReading::Invalid
-            }
-        }
-        Reading::Nothing => EventReading::Invalid,
-    }
-}
-
-// The INVVPID or INVEPT that the bytes of its kind are.
-fn read_invalidation(e: &[u8]) -> EventReading
-    requires { ⌜ (kind-of (now e) ≡ 16) ⊎ (kind-of (now e) ≡ 17) ⌝ }
-    ensures { λ r. ⌜ r ≡ event-reading (now (e .entry)) ⌝ }
-{
-    if e.len() != 25 {
-        return EventReading::Invalid;
-    }
-    let operands = Operands {
+    Operands {
         type_number: numbers::number8(e, 1),
         low: numbers::number8(e, 9),
         high: numbers::number8(e, 17),
-    };
-    if e[0] == 16 {
-        EventReading::Read(Event::Invvpid(operands))
-    } else {
-        EventReading::Read(Event::Invept(operands))
     }
 }
 
-// The INVLPG that the bytes of its kind are.
-fn read_invlpg(e: &[u8]) -> EventReading
-    requires { ⌜ kind-of (now e) ≡ 18 ⌝ }
-    ensures { λ r. ⌜ r ≡ event-reading (now (e .entry)) ⌝ }
+// The fields of an EPT violation.
+fn read_violation(e: &[u8]) -> Violation
+    requires { ⌜ (kind-of (now e) ≡ 19) × (length (now e) ≡ 18) ⌝ }
+    ensures { λ r. ⌜ r ≡ violation (now (e .entry)) ⌝ }
 {
-    if e.len() != 9 {
-        return EventReading::Invalid;
+    Violation {
+        physical: numbers::number8(e, 1),
+        flag: numbers::number1(e, 9),
+        linear: numbers::number8(e, 10),
     }
-    EventReading::Read(Event::Invlpg(numbers::number8(e, 1)))
 }
 
-// The EPT violation that the bytes of its kind are. With flag 0 the linear address is not looked at.
-fn read_violation(e: &[u8]) -> EventReading
-    requires { ⌜ kind-of (now e) ≡ 19 ⌝ }
-    ensures { λ r. ⌜ r ≡ event-reading (now (e .entry)) ⌝ }
+// The fields of a VM entry.
+fn read_entry(e: &[u8]) -> Entry
+    requires { ⌜ (kind-of (now e) ≡ 20) × (length (now e) ≡ 16) ⌝ }
+    ensures { λ r. ⌜ r ≡ entry (now (e .entry)) ⌝ }
 {
-    if e.len() != 18 {
-        return EventReading::Invalid;
-    }
-    let physical = numbers::number8(e, 1);
-    let flag = numbers::number1(e, 9);
-    let linear = numbers::number8(e, 10);
-    if (physical < model::GUEST_PHYSICAL_LIMIT)
-        & (flag <= 1)
-        & ((flag == 0) | addresses::is_canonical(linear))
-    {
-        EventReading::Read(Event::EptViolation(Violation {
-            physical,
-            flag,
-            linear,
-        }))
-    } else {
-        EventReading::Invalid
+    Entry {
+        vpids: numbers::number1(e, 1),
+        vpid: numbers::number2(e, 2),
+        ept: numbers::number1(e, 4),
+        eptp: numbers::number8(e, 5),
+        pcid: numbers::number2(e, 13),
+        cpl: numbers::number1(e, 15),
     }
 }
 
-// The VM entry that the bytes of its kind are. A disabled VPID or EPT field is not looked at.
-fn read_entry(e: &[u8]) -> EventReading
-    requires { ⌜ kind-of (now e) ≡ 20 ⌝ }
-    ensures { λ r. ⌜ r ≡ event-reading (now (e .entry)) ⌝ }
+// The fields of a new PCID and CPL.
+fn read_new_pcid(e: &[u8]) -> NewPcid
+    requires { ⌜ (kind-of (now e) ≡ 24) × (length (now e) ≡ 4) ⌝ }
+    ensures { λ r. ⌜ r ≡ new-pcid (now (e .entry)) ⌝ }
 {
-    if e.len() != 16 {
-        return EventReading::Invalid;
-    }
-    let vpids = numbers::number1(e, 1);
-    let vpid = numbers::number2(e, 2);
-    let ept = numbers::number1(e, 4);
-    let eptp = numbers::number8(e, 5);
-    let pcid = numbers::number2(e, 13);
-    let cpl = numbers::number1(e, 15);
-    if (vpids <= 1) & (ept <= 1) & (pcid <= model::PCID_MAX) & (cpl <= 3) {
-        EventReading::Read(Event::Entry(Entry {
-            vpids,
-            vpid,
-            ept,
-            eptp,
-            pcid,
-            cpl,
-        }))
-    } else {
-        EventReading::Invalid
+    NewPcid {
+        pcid: numbers::number2(e, 1),
+        cpl: numbers::number1(e, 3),
     }
 }
 
-// The VM exit that the bytes of its kind are.
-fn read_exit(e: &[u8]) -> EventReading
-    requires { ⌜ kind-of (now e) ≡ 21 ⌝ }
-    ensures { λ r. ⌜ r ≡ event-reading (now (e .entry)) ⌝ }
+// The fields of the event of a kind, in bytes of its length, are in their ranges. With flag 0 an EPT
+// violation's linear address is not looked at, and a disabled VPID or EPT field of a VM entry never is.
+fn is_in_range(e: &[u8], kind: u64) -> bool
+    requires { ⌜ (kind ≡ kind-of (now e)) × (length (now e) ≡ length-of kind) ⌝ }
+    ensures { λ r. ⌜ r ≡ event-in-range (event (now (e .entry))) ⌝ }
 {
-    if e.len() != 3 {
-        return EventReading::Invalid;
+    if kinds::is_mapping(kind) {
+        return mappings::is_in_ranges(e);
     }
-    let pcid = numbers::number2(e, 1);
-    if pcid <= model::PCID_MAX {
-        EventReading::Read(Event::Exit(pcid))
-    } else {
-        EventReading::Invalid
+    match kind {
+        19 => {
+            let v = read_violation(e);
+            (v.physical < model::GUEST_PHYSICAL_LIMIT)
+                & (v.flag <= 1)
+                & ((v.flag == 0) | addresses::is_canonical(v.linear))
+        }
+        20 => {
+            let n = read_entry(e);
+            (n.vpids <= 1) & (n.ept <= 1) & (n.pcid <= model::PCID_MAX) & (n.cpl <= 3)
+        }
+        21 => numbers::number2(e, 1) <= model::PCID_MAX,
+        24 => {
+            let n = read_new_pcid(e);
+            (n.pcid <= model::PCID_MAX) & (n.cpl <= 3)
+        }
+        _ => true,
     }
 }
 
-// The new PCID and CPL that the bytes of kind 24 are.
-fn read_new_pcid(e: &[u8]) -> EventReading
-    requires { ⌜ kind-of (now e) ≡ 24 ⌝ }
-    ensures { λ r. ⌜ r ≡ event-reading (now (e .entry)) ⌝ }
+// The kind of bytes, their first, and 0 where there is none.
+fn kind_of(e: &[u8]) -> u64
+    ensures { λ r. ⌜ r ≡ kind-of (now (e .entry)) ⌝ }
 {
-    if e.len() != 4 {
-        return EventReading::Invalid;
+    if e.len() == 0 {
+        return 0;
     }
-    let pcid = numbers::number2(e, 1);
-    let cpl = numbers::number1(e, 3);
-    if (pcid <= model::PCID_MAX) & (cpl <= 3) {
-        EventReading::Read(Event::NewPcid(NewPcid { pcid, cpl }))
-    } else {
-        EventReading::Invalid
+    numbers::wide(e[0])
+}
+
+// Bytes of a kind are exactly one valid record. No bytes, an unknown kind, a byte too few or too many and
+// a field out of its range are all invalid.
+fn is_valid(e: &[u8], kind: u64) -> bool
+    requires { ⌜ kind ≡ kind-of (now e) ⌝ }
+    ensures { λ r. ⌜ r ≡ valid-event (now (e .entry)) ⌝ }
+{
+    let size = e.len();
+    if (size == 0) | (size != kinds::length(kind)) {
+        return false;
+    }
+    is_in_range(e, kind)
+}
+
+// The event of a kind in bytes of its length. The one known kind behind the others is 25, a reset.
+fn event_of(e: &[u8], kind: u64) -> Event
+    requires { ⌜ (kind ≡ kind-of (now e)) × (length (now e) ≡ length-of kind) ⌝ }
+    ensures { λ r. ⌜ r ≡ event (now (e .entry)) ⌝ }
+{
+    if kinds::is_mapping(kind) {
+        return Event::Creation(mappings::mapping_of(e));
+    }
+    match kind {
+        16 => return Event::Invvpid(read_operands(e)),
+        17 => return Event::Invept(read_operands(e)),
+        18 => return Event::Invlpg(numbers::number8(e, 1)),
+        19 => return Event::EptViolation(read_violation(e)),
+        20 => return Event::Entry(read_entry(e)),
+        21 => return Event::Exit(numbers::number2(e, 1)),
+        22 => return Event::Vmxon,
+        23 => return Event::Vmxoff,
+        24 => return Event::NewPcid(read_new_pcid(e)),
+        _ => return Event::Reset,
     }
 }
 
-// The event that the bytes are, or that they are not exactly one valid record. No bytes, an unknown
-// kind, a byte too few or too many and a field out of its range are all invalid.
+// The event that the bytes are, or that they are not exactly one valid record.
 pub fn read_event(e: &[u8]) -> EventReading
     ensures { λ r. ⌜ r ≡ event-reading (now (e .entry)) ⌝ }
 {
-    let size = e.len();
-    if size == 0 {
-        return EventReading::Invalid;
+    let kind = kind_of(e);
+    if is_valid(e, kind) {
+        return EventReading::Read(event_of(e, kind));
     }
-    match e[0] {
-        1 | 2 | 3 | 4 | 5 | 6 => read_creation(e),
-        16 => read_invalidation(e),
-        17 => read_invalidation(e),
-        18 => read_invlpg(e),
-        19 => read_violation(e),
-        20 => read_entry(e),
-        21 => read_exit(e),
-        22 => {
-            if size == 1 {
-                EventReading::Read(Event::Vmxon)
-            } else {
-                EventReading::Invalid
-            }
-        }
-        23 => {
-            if size == 1 {
-                EventReading::Read(Event::Vmxoff)
-            } else {
-                EventReading::Invalid
-            }
-        }
-        24 => read_new_pcid(e),
-        25 => {
-            if size == 1 {
-                EventReading::Read(Event::Reset)
-            } else {
-                EventReading::Invalid
-            }
-        }
-        _ => EventReading::Invalid,
-    }
+    EventReading::Invalid
 }

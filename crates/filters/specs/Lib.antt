@@ -1,3 +1,3 @@
-pub mod Kept
-pub mod Sweep
-pub mod Whole
+-- What filtering a table writes and tells; and, apart from these definitions, the laws about them.
+pub mod Filters
+pub mod Laws

@@ -1,17 +1,19 @@
 -- Answers: what an accepted event's answer says, and on what the answer of an event depends.
 use Prim.Native.Nat.{ℕ, suc, min, _+_, _≤_, _<_}
-use mathlib.Core.Path.{_≡_, refl, sym, _∙_}
+use mathlib.Core.Path.{_≡_, refl, sym, ap, _∙_}
 use mathlib.Core.Bool.{Bool, true, false, cond, not, _&&_, and-eq-true-iff, false≢true}
 use mathlib.Core.List.{List, [], _∷_, _++_, append-assoc}
 use native.Mathlib.Omega.{arith}
 use lib.Dec.{eqb, ltb}
 use lib.ListN.{length}
-use borrow.Author.Tests.{ltb-true, ltb-false, le-ltb, eqb-false, not-true, not-false, eq-eqb}
+use borrow.Author.Tests.{ltb-true, ltb-false, le-ltb, eqb-true, eqb-false, not-true, not-false, eq-eqb}
 use Rattle.model.specs.declared.Context.{Context}
-use Rattle.model.specs.Context.{in-range}
-use Rattle.model.specs.Tables.{limit, whole}
-use Rattle.model.specs.Events.{event, valid-event}
-use Rattle.model.specs.Answers.{first, created, no-room, table-grounds, event-grounds, event-answer, grounds, answer}
+use Rattle.model.specs.declared.Event.{Event}
+use Rattle.model.specs.declared.Event.the-variants.{Creation, Invvpid, Invept, Invlpg, EptViolation, Entry, Exit, Vmxon, Vmxoff, NewPcid, Reset}
+use Rattle.model.specs.Context.{in-range, in-root, in-guest, current-ept}
+use Rattle.model.specs.Tables.{limit}
+use Rattle.model.specs.Events.{event}
+use Rattle.model.specs.Answers.{first, bad-invvpid, bad-invept, invalid-opcode, exits, general-protection, bad-entry, ept-in-use, creatable, own-ground, created, no-room, valid-table, valid-here, table-grounds, event-grounds, event-answer, grounds, answer}
 use Rattle.laws.specs.Lists.{Every, none, more, every-head, every-tail, every-append-front, every-append-back}
 
 -- every ground has a number above 0, so that no answer 0 stands for one
@@ -70,8 +72,8 @@ first-last-applies (g ∷ gs) n b h e =
 -- what it is that an event is accepted, as far as it concerns the table
 pub record Accepted (c : Context) (t e : List ℕ) (room : ℕ) : Type 0 where
   pub context : in-range c ≡ true
-  pub whole : whole t ≡ true
-  pub valid : valid-event e ≡ true
+  pub whole : valid-table t ≡ true
+  pub valid : valid-here e ≡ true
   pub fits : length t + length (created e) ≤ room
   pub short : length t + length (created e) ≤ limit
 
@@ -79,17 +81,17 @@ pub accepted-parts : (c : Context) (t e : List ℕ) (room : ℕ) → answer c t 
 unfolding answer grounds table-grounds event-grounds no-room
 accepted-parts c t e room h =
     let all = first-zero (grounds c t e room) refl h in
-    let early = table-grounds c t ++ ((4, not (valid-event e)) ∷ []) in
+    let early = table-grounds c t ++ ((4, not (valid-here e)) ∷ []) in
     let before = every-append-front (early ++ event-grounds c (event e)) ((12, no-room room t e) ∷ []) all in
     let last = every-append-back (early ++ event-grounds c (event e)) ((12, no-room room t e) ∷ []) all in
     let both = every-append-front early (event-grounds c (event e)) before in
-    let of-table = every-append-front (table-grounds c t) ((4, not (valid-event e)) ∷ []) both in
-    let of-event = every-append-back (table-grounds c t) ((4, not (valid-event e)) ∷ []) both in
+    let of-table = every-append-front (table-grounds c t) ((4, not (valid-here e)) ∷ []) both in
+    let of-event = every-append-back (table-grounds c t) ((4, not (valid-here e)) ∷ []) both in
     let enough = ltb-false (min room limit) (length t + length (created e)) (every-head last) in
     record {
       context = not-false (in-range c) (every-head of-table);
-      whole = not-false (whole t) (every-head (every-tail (every-tail of-table)));
-      valid = not-false (valid-event e) (every-head of-event);
+      whole = not-false (valid-table t) (every-head (every-tail (every-tail of-table)));
+      valid = not-false (valid-here e) (every-head of-event);
       fits = omega arith;
       short = omega arith;
     }
@@ -100,7 +102,7 @@ unfolding answer grounds no-room
 answer-room c t e room h = let same : min room limit ≡ limit = omega arith in rw same
 
 -- grounds 1 to 3 of a whole table that is short enough
-pub table-grounds-whole : (c : Context) (t : List ℕ) → whole t ≡ true → length t ≤ limit
+pub table-grounds-whole : (c : Context) (t : List ℕ) → valid-table t ≡ true → length t ≤ limit
     → table-grounds c t ≡ (1, not (in-range c)) ∷ (2, false) ∷ (3, false) ∷ []
 unfolding table-grounds
 table-grounds-whole c t w short = rw (w, le-ltb limit (length t) short)
@@ -113,7 +115,7 @@ no-room-shorter room t t′ e less h =
     (omega (arith, ltb-false (min room limit) (length t + length (created e)) h))
 
 -- of two whole tables the shorter has the same answer, where room does not give it
-pub answer-shorter : (c : Context) (t t′ e : List ℕ) (room : ℕ) → whole t ≡ true → whole t′ ≡ true → length t ≤ limit
+pub answer-shorter : (c : Context) (t t′ e : List ℕ) (room : ℕ) → valid-table t ≡ true → valid-table t′ ≡ true → length t ≤ limit
     → length t′ ≤ length t
     → (answer c t e room ≡ 12 → ⊥)
     → answer c t′ e room ≡ answer c t e room
@@ -122,14 +124,14 @@ answer-shorter c t t′ e room w w′ short less h =
     let same : table-grounds c t′ ≡ table-grounds c t =
     table-grounds-whole c t′ w′ (omega arith) ∙ sym (table-grounds-whole c t w short) in
     rw same
-    (first-last (table-grounds c t ++ ((4, not (valid-event e)) ∷ []) ++ event-grounds c (event e)) 12 (no-room room t e)
+    (first-last (table-grounds c t ++ ((4, not (valid-here e)) ∷ []) ++ event-grounds c (event e)) 12 (no-room room t e)
     (no-room room t′ e) (no-room-shorter room t t′ e less) h)
 
 -- 12 is given only where there is no room
 pub answer-no-room : (c : Context) (t e : List ℕ) (room : ℕ) → answer c t e room ≡ 12 → no-room room t e ≡ true
 unfolding answer grounds table-grounds event-grounds
 answer-no-room c t e room h =
-    first-last-applies (table-grounds c t ++ ((4, not (valid-event e)) ∷ []) ++ event-grounds c (event e)) 11 (no-room room t e) refl h
+    first-last-applies (table-grounds c t ++ ((4, not (valid-here e)) ∷ []) ++ event-grounds c (event e)) 11 (no-room room t e) refl h
 
 -- a number is not given where no ground of it applies
 abbrev absent : ℕ → List (ℕ × Bool) → Bool
@@ -148,7 +150,7 @@ first-absent (g ∷ gs) n h e =
     go false k off ih = ih k
 
 -- a whole table that is short enough is not answered 2 or 3, and in a context in its ranges not 1
-module _ (c : Context) (t e : List ℕ) (room : ℕ) (w : whole t ≡ true) (short : length t ≤ limit) where
+module _ (c : Context) (t e : List ℕ) (room : ℕ) (w : valid-table t ≡ true) (short : length t ≤ limit) where
   pub answer-not-2 : answer c t e room ≡ 2 → ⊥
   unfolding answer grounds event-grounds
   answer-not-2 = first-absent (grounds c t e room) 1 (rw (table-grounds-whole c t w short))
@@ -189,19 +191,19 @@ module _ (c : Context) (t e : List ℕ) (room : ℕ) where
   pub answer-of-table : (first (table-grounds c t) ≡ 0 → ⊥) → answer c t e room ≡ first (table-grounds c t)
   unfolding answer grounds
   answer-of-table h =
-      simp append-assoc (first-append-some (table-grounds c t) (((4, not (valid-event e)) ∷ []) ++ (event-grounds c (event e) ++ ((12, no-room room t e) ∷ []))) h)
+      simp append-assoc (first-append-some (table-grounds c t) (((4, not (valid-here e)) ∷ []) ++ (event-grounds c (event e) ++ ((12, no-room room t e) ∷ []))) h)
 
   module _ (h : first (table-grounds c t) ≡ 0) where
-    past-table : answer c t e room ≡ first ((4, not (valid-event e)) ∷ (event-grounds c (event e) ++ ((12, no-room room t e) ∷ [])))
+    past-table : answer c t e room ≡ first ((4, not (valid-here e)) ∷ (event-grounds c (event e) ++ ((12, no-room room t e) ∷ [])))
     unfolding answer grounds table-grounds
     past-table =
-        first-append-none (table-grounds c t) ((4, not (valid-event e)) ∷ (event-grounds c (event e) ++ ((12, no-room room t e) ∷ []))) refl h
+        first-append-none (table-grounds c t) ((4, not (valid-here e)) ∷ (event-grounds c (event e) ++ ((12, no-room room t e) ∷ []))) refl h
 
-    pub answer-of-invalid : valid-event e ≡ false → answer c t e room ≡ 4
+    pub answer-of-invalid : valid-here e ≡ false → answer c t e room ≡ 4
     unfolding first
     answer-of-invalid v = past-table ∙ rw v
 
-    module _ (v : valid-event e ≡ true) where
+    module _ (v : valid-here e ≡ true) where
       past-valid : answer c t e room ≡ first (event-grounds c (event e) ++ ((12, no-room room t e) ∷ []))
       unfolding first
       past-valid = past-table ∙ rw v
@@ -214,3 +216,59 @@ module _ (c : Context) (t e : List ℕ) (room : ℕ) where
       unfolding event-answer first event-grounds
       answer-of-room k =
           past-valid ∙ first-append-none (event-grounds c (event e)) ((12, no-room room t e) ∷ []) refl k
+
+-- an event's own ground is none, or one of four numbers
+own-ground-cases : (P : ℕ → Type 0) → P 0 → P 8 → P 9 → P 10 → P 11 → (c : Context) (e : Event) → P (own-ground c e)
+unfolding own-ground
+own-ground-cases P p0 p8 p9 p10 p11 c = of-event
+  where
+    given : (b : Bool) {n : ℕ} → P n → P (cond b n 0)
+    given true p = p
+    given false p = p0
+
+    of-event : (e : Event) → P (own-ground c e)
+    of-event (Creation m) = given (not (creatable c m)) p11
+    of-event (Invvpid o) = given (bad-invvpid c o) p8
+    of-event (Invept o) = given (bad-invept c o) p8
+    of-event (Invlpg address) = p0
+    of-event (EptViolation v) = given (not (ept-in-use (current-ept (c .place)))) p9
+    of-event (Entry n) = given (bad-entry c n) p10
+    of-event (Exit pcid) = given (not (in-guest (c .place))) p9
+    of-event Vmxon = given (in-root (c .place)) p9
+    of-event Vmxoff = p0
+    of-event (NewPcid n) = p0
+    of-event Reset = p0
+
+-- the answer of an event behind 5, 6 and 7 is its own ground
+pub event-answer-own : (c : Context) (e : Event)
+    → event-answer c e ≡ cond (invalid-opcode c e) 5 (cond (exits c e) 6 (cond (general-protection c e) 7 (own-ground c e)))
+unfolding event-answer event-grounds first
+event-answer-own c e =
+    let own = own-ground-cases (λ n. first ((8, eqb n 8) ∷ (9, eqb n 9) ∷ (10, eqb n 10) ∷ (11, eqb n 11) ∷ []) ≡ n) refl refl refl refl refl c e in
+    ap (λ (n : ℕ). cond (invalid-opcode c e) 5 (cond (exits c e) 6 (cond (general-protection c e) 7 n))) own
+
+-- an event that is answered 0 has no ground of its own
+pub own-ground-zero : (c : Context) (e : Event) → event-answer c e ≡ 0 → own-ground c e ≡ 0
+own-ground-zero c e h = go (invalid-opcode c e) (exits c e) (general-protection c e) (sym (event-answer-own c e) ∙ h)
+  where
+    go : (five six seven : Bool) → cond five 5 (cond six 6 (cond seven 7 (own-ground c e))) ≡ 0 → own-ground c e ≡ 0
+    go true six seven k = absurd (omega arith)
+    go false true seven k = absurd (omega arith)
+    go false false true k = absurd (omega arith)
+    go false false false k = k
+
+-- An event is accepted only where its own ground does not apply.
+pub accepted-own-ground : (c : Context) (t e : List ℕ) (room : ℕ) → answer c t e room ≡ 0 → own-ground c (event e) ≡ 0
+unfolding first
+accepted-own-ground c t e room h =
+    own-ground-zero c (event e) (go (eqb (event-answer c (event e)) 0) refl)
+  where
+    parts : Accepted c t e room
+    parts = accepted-parts c t e room h
+
+    passes : first (table-grounds c t) ≡ 0
+    passes = rw (table-grounds-whole c t (parts .whole) (omega (arith, parts .short)), parts .context)
+
+    go : (b : Bool) → eqb (event-answer c (event e)) 0 ≡ b → event-answer c (event e) ≡ 0
+    go true is = eqb-true (event-answer c (event e)) 0 is
+    go false is = sym (answer-of-event c t e room passes (parts .valid) (eqb-false (event-answer c (event e)) 0 is)) ∙ h

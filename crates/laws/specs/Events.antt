@@ -1,18 +1,19 @@
 -- Events: what the event reader's answer says, and that a valid creation is an exactly valid record.
 use Prim.Native.Nat.{ℕ}
-use mathlib.Core.Path.{_≡_, refl}
-use mathlib.Core.Bool.{Bool, true, false, cond, _&&_, and-eq-true-iff}
-use mathlib.Core.List.{List}
+use mathlib.Core.Path.{_≡_, refl, sym, ap, _∙_}
+use mathlib.Core.Bool.{Bool, true, false, cond, not, _&&_, _||_, and-eq-true-iff, false≢true}
+use mathlib.Core.List.{List, [], _∷_}
 use native.Mathlib.Omega.{arith}
 use lib.Dec.{eqb}
 use lib.ListN.{length}
-use borrow.Author.Tests.{eqb-true}
+use borrow.Author.Tests.{eqb-true, ne-eqb}
 use Rattle.model.specs.declared.Event.{Event}
-use Rattle.model.specs.declared.Event.the-variants.{Creation}
+use Rattle.model.specs.declared.Event.the-variants.{Creation, Invvpid, Invept, Invlpg, Vmxon, Vmxoff, Reset}
 use Rattle.model.specs.declared.EventReading.the-variants.{Read, Invalid}
-use Rattle.model.specs.Layouts.{kind-of, mapping-kind, event-kind, length-of}
-use Rattle.model.specs.Mappings.{mapping}
-use Rattle.model.specs.Events.{event, event-in-range, valid-event, event-reading}
+use Rattle.model.specs.Layouts.{Field, field, kind-of, mapping-kind, event-kind, length-of}
+use Rattle.model.specs.Mappings.{mapping, Held}
+use Rattle.model.specs.Events.{operands, event, event-in-range, valid-event, event-reading}
+use Rattle.laws.specs.Layouts.{length-of-positive}
 use Rattle.laws.specs.Mappings.{Valid, valid-made, starts-made}
 
 -- what it is that an event is valid, part by part
@@ -56,3 +57,71 @@ valid-event-invalid e h = go (valid-event e) refl h
     go : (b : Bool) → valid-event e ≡ b → cond b (Read (event e)) Invalid ≡ Invalid → valid-event e ≡ false
     go true v k = absurd (let z : _≡_ {A = ℕ} 0 1 = cc in omega arith)
     go false v k = v
+
+-- no byte, no kind
+pub kind-of-empty : (e : List ℕ) → length e ≡ 0 → 0 ≡ kind-of e
+unfolding kind-of
+kind-of-empty [] none = refl
+kind-of-empty (x ∷ xs) none = absurd (omega arith)
+
+-- the test that bytes are none, or of another length than that of their kind, 0 where it is unknown
+abbrev pub unsized : List ℕ → Bool
+unsized e = eqb (length e) 0 || not (eqb (length e) (cond (event-kind (kind-of e)) (length-of (kind-of e)) 0))
+
+module _ (e : List ℕ) where
+  by-kind : (known : Bool) → eqb (length e) (cond known (length-of (kind-of e)) 0) ≡ cond known (eqb (length e) (length-of (kind-of e))) (eqb (length e) 0)
+  by-kind true = refl
+  by-kind false = refl
+
+  -- then they are not valid
+  pub valid-unsized : unsized e ≡ true → false ≡ valid-event e
+  unfolding valid-event
+  valid-unsized h =
+      go (eqb (length e) 0) (event-kind (kind-of e)) (eqb (length e) (length-of (kind-of e))) refl refl (rw (by-kind (event-kind (kind-of e))) at h)
+    where
+      go : (empty known exact : Bool) → eqb (length e) 0 ≡ empty → eqb (length e) (length-of (kind-of e)) ≡ exact
+          → (empty || not (cond known exact empty)) ≡ true
+          → false ≡ (known && exact && event-in-range (event e))
+      go empty false exact p q h = refl
+      go empty true false p q h = refl
+      go false true true p q h = absurd (false≢true h)
+      go true true true p q h =
+          absurd (omega (arith, eqb-true (length e) 0 p, eqb-true (length e) (length-of (kind-of e)) q, length-of-positive (kind-of e)))
+
+  -- else the ranges of their fields decide
+  pub valid-sized : unsized e ≡ false → (length e ≡ length-of (kind-of e)) × (event-in-range (event e) ≡ valid-event e)
+  unfolding valid-event
+  valid-sized h =
+      go (eqb (length e) 0) (event-kind (kind-of e)) (eqb (length e) (length-of (kind-of e))) refl (rw (by-kind (event-kind (kind-of e))) at h)
+    where
+      go : (empty known exact : Bool) → eqb (length e) (length-of (kind-of e)) ≡ exact → (empty || not (cond known exact empty)) ≡ false
+          → (length e ≡ length-of (kind-of e)) × (event-in-range (event e) ≡ (known && exact && event-in-range (event e)))
+      go true known exact q h = absurd (false≢true (sym h))
+      go false false exact q h = absurd (false≢true (sym h))
+      go false true false q h = absurd (false≢true (sym h))
+      go false true true q h = (eqb-true (length e) (length-of (kind-of e)) q, refl)
+
+-- the kind, and so the length, of bytes that have the length of their kind
+pub sized-at : (e : List ℕ) {kind : ℕ} (k : ℕ) → (kind ≡ kind-of e) × (length e ≡ length-of kind) → kind ≡ k → (kind-of e ≡ k) × (length e ≡ length-of k)
+sized-at e k sized is = (sym (sized .0) ∙ is, sized .1 ∙ ap length-of is)
+
+pub sized-held : (e : List ℕ) {kind : ℕ} → (kind ≡ kind-of e) × (length e ≡ length-of kind) → mapping-kind kind ≡ true → Held e
+sized-held e sized known =
+    record { known = rw (sized .0) at known; fits = omega (arith, rw (sized .0) at (sized .1)) }
+
+-- creations, EPT violations, VM entries, VM exits and new PCIDs have ranges, the other events none
+pub in-range-other : (e : List ℕ) {kind : ℕ} → kind ≡ kind-of e → mapping-kind kind ≡ false → (kind ≡ 19 → ⊥) → (kind ≡ 20 → ⊥) → (kind ≡ 21 → ⊥)
+    → (kind ≡ 24 → ⊥)
+    → true ≡ event-in-range (event e)
+unfolding event event-in-range
+in-range-other e {kind} is creation violation entry exit pcid =
+    rw (← is, creation, ne-eqb kind 19 violation, ne-eqb kind 20 entry, ne-eqb kind 21 exit, ne-eqb kind 24 pcid)
+    (go (eqb kind 16) (eqb kind 17) (eqb kind 18) (eqb kind 22) (eqb kind 23))
+  where
+    go : (a b c d f : Bool) → true ≡ event-in-range (cond a (Invvpid (operands e)) (cond b (Invept (operands e)) (cond c (Invlpg (field Field.linear-address e)) (cond d Vmxon (cond f Vmxoff Reset)))))
+    go true b c d f = refl
+    go false true c d f = refl
+    go false false true d f = refl
+    go false false false true f = refl
+    go false false false false true = refl
+    go false false false false false = refl

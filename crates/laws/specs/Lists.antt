@@ -1,11 +1,12 @@
--- Lists in general: what holds of every element, and the front on which two byte lists agree.
-use Prim.Native.Nat.{ℕ, zero, suc, _≤_, _<_}
-use mathlib.Core.Path.{_≡_, refl}
+-- Lists in general: what holds of every element, the element at a place, the front on which two byte lists
+-- agree, and the end of a part.
+use Prim.Native.Nat.{ℕ, zero, suc, _+_, _-_, _≤_, _<_}
+use mathlib.Core.Path.{_≡_, refl, ap}
 use mathlib.Core.Bool.{Bool, true, false, cond}
 use mathlib.Core.List.{List, [], _∷_, _++_}
 use native.Mathlib.Omega.{arith}
-use lib.ListN.{length, take, drop, getD, List·getD-append}
-use lib.Seq.{getD-take}
+use lib.ListN.{length, take, drop, getD, length-drop, List·getD-append}
+use lib.Seq.{getD-take, length-take-le}
 
 -- P holds of every element of a list
 pub data Every {A : Type 0} (P : A → Type 0) : List A → Type 0 where
@@ -51,6 +52,11 @@ getD-every k d none h = absurd (omega arith)
 getD-every zero d (more p ps) h = p
 getD-every (suc k) d (more p ps) h = getD-every k d ps (omega arith)
 
+-- the element behind the first
+pub getD-behind : {A : Type 0} (x : A) (xs : List A) (k : ℕ) (d : A) → (k ≡ 0 → ⊥) → getD (x ∷ xs) k d ≡ getD xs (k - 1) d
+getD-behind x xs zero d some = absurd (some refl)
+getD-behind x xs (suc k) d some = let same : suc k - 1 ≡ k = omega arith in rw same
+
 -- an element that a test lets in stands before what is put behind
 pub cond-append : {A : Type 0} (b : Bool) (x : A) (xs ys : List A) → cond b (x ∷ (xs ++ ys)) (xs ++ ys) ≡ cond b (x ∷ xs) xs ++ ys
 cond-append true x xs ys = refl
@@ -65,3 +71,8 @@ agree-append n r s h i l = List·getD-append r s 0 i (omega arith)
 
 pub agree-take : (n m : ℕ) (t : List ℕ) → n ≤ m → Agree n (take m t) t
 agree-take n m t h i l = getD-take m t i 0 (omega arith)
+
+-- a part of a list ends as far behind its start as it is long
+pub end-of-part : {A : Type 0} (t r : List A) (start end : ℕ) → start ≤ end → end ≤ length t → take (end - start) (drop start t) ≡ r → end ≡ start + length r
+end-of-part t r start end h k is =
+    omega (arith, length-take-le (end - start) (drop start t) (omega (arith, length-drop start t)), ap length is)

@@ -2,19 +2,101 @@
 -- the front of some bytes, and exactly valid records.
 use Prim.Native.Nat.{ℕ, suc, _≤_, _<_}
 use mathlib.Core.Path.{_≡_, refl, sym, ap, _∙_}
-use mathlib.Core.Bool.{Bool, true, false, cond, _&&_, and-false, and-eq-true-iff}
+use mathlib.Core.Bool.{Bool, true, false, cond, not, _&&_, _||_, and-false, and-eq-true-iff, false≢true}
 use mathlib.Core.List.{List, _++_}
+use native.Mathlib.Nat.{le-trans}
 use native.Mathlib.Omega.{arith}
-use lib.Dec.{leb}
+use lib.Dec.{eqb, leb, lit<}
 use lib.ListN.{length, take, length-append}
 use lib.Seq.{length-take-le}
-use borrow.Author.Tests.{leb-true, le-leb, lt-leb}
-use Rattle.model.specs.Layouts.{Field, kind-of, mapping-kind, length-of}
-use Rattle.model.specs.Mappings.{mapping, fields-in-range, starts-record, record-length, reading}
+use borrow.Author.Tests.{eqb-true, leb-true, le-leb, lt-leb}
+use Rattle.model.specs.Bits.{number}
+use Rattle.model.specs.Layouts.{Field, Sort, sort-number, kind-of, mapping-kind, body-of, length-of}
+use Rattle.model.specs.Mappings.{mapping, Held, of-sort, linear, guest-physical, combined, structure-cache, global-marked, fields-in-range, starts-record, record-length, reading}
 use Rattle.model.specs.declared.Mapping.{Mapping}
 use Rattle.model.specs.declared.Reading.the-variants.{Record, Nothing}
 use Rattle.laws.specs.Lists.{Agree, agree-append, agree-take}
-use Rattle.laws.specs.Layouts.{kind-agree, field-agree, length-of-positive}
+use Rattle.laws.specs.Layouts.{of-mapping-kind, field-by-test, agrees, agrees-true, agrees-below, mapping-kind-below, below, row-test-known, kind-agree, field-agree, length-of-positive}
+
+-- only a known kind has a sort, is a structure cache, or carries a global mark
+of-sort-known : (s : Sort) (k : ℕ) → of-sort s k ≡ true → mapping-kind k ≡ true
+of-sort-known s = row-test-known (λ row. eqb (sort-number (row .sort)) (sort-number s))
+
+pub linear-known : (k : ℕ) → linear k ≡ true → mapping-kind k ≡ true
+unfolding linear
+linear-known = of-sort-known Sort.linear
+
+pub guest-physical-known : (k : ℕ) → guest-physical k ≡ true → mapping-kind k ≡ true
+unfolding guest-physical
+guest-physical-known = of-sort-known Sort.guest-physical
+
+pub combined-known : (k : ℕ) → combined k ≡ true → mapping-kind k ≡ true
+unfolding combined
+combined-known = of-sort-known Sort.combined
+
+pub structure-cache-known : (k : ℕ) → structure-cache k ≡ true → mapping-kind k ≡ true
+unfolding structure-cache
+structure-cache-known = row-test-known (λ row. row .cache)
+
+pub tagged-known : (k : ℕ) → (linear k || combined k) ≡ true → mapping-kind k ≡ true
+tagged-known k = go (linear k) refl
+  where
+    go : (b : Bool) → linear k ≡ b → (b || combined k) ≡ true → mapping-kind k ≡ true
+    go true is h = linear-known k is
+    go false is h = combined-known k h
+
+pub global-marked-known : (k : ℕ) → global-marked k ≡ true → mapping-kind k ≡ true
+unfolding global-marked
+global-marked-known k holds = tagged-known k (and-eq-true-iff (linear k || combined k) (not (structure-cache k)) .0 holds .0)
+
+-- no mapping is guest-physical and combined
+pub sorts-apart : (k : ℕ) → (guest-physical k && combined k) ≡ false
+unfolding guest-physical combined
+sorts-apart =
+    agrees-below (λ k. guest-physical k && combined k) (λ k. false) 64 refl
+    (λ k both. mapping-kind-below k (guest-physical-known k (and-eq-true-iff (guest-physical k) (combined k) .0 both .0)))
+    (λ k none. absurd (false≢true none))
+
+-- the kinds of each sort, the structure caches, and those with a global mark, by number
+either-below : (a b : ℕ) → a < 64 → b < 64 → (k : ℕ) → (eqb k a || eqb k b) ≡ true → k < 64
+either-below a b ha hb k = go (eqb k a) (eqb k b) refl refl
+  where
+    go : (x y : Bool) → eqb k a ≡ x → eqb k b ≡ y → (x || y) ≡ true → k < 64
+    go true y p q h = omega (arith, eqb-true k a p)
+    go false true p q h = omega (arith, eqb-true k b q)
+    go false false p q h = absurd (false≢true h)
+
+by-numbers : (f : ℕ → Bool) (a b : ℕ) → a < 64 → b < 64 → ((k : ℕ) → f k ≡ true → mapping-kind k ≡ true) → below (λ k. agrees (f k) (eqb k a || eqb k b)) 64 ≡ true → (k : ℕ) → f k ≡ (eqb k a || eqb k b)
+by-numbers f a b ha hb known all =
+    agrees-below f (λ k. eqb k a || eqb k b) 64 all (λ k holds. mapping-kind-below k (known k holds)) (either-below a b ha hb)
+
+pub linear-numbers : (k : ℕ) → linear k ≡ (eqb k 1 || eqb k 4)
+unfolding linear
+linear-numbers = by-numbers linear 1 4 (lit< tt) (lit< tt) linear-known refl
+
+pub guest-physical-numbers : (k : ℕ) → guest-physical k ≡ (eqb k 2 || eqb k 5)
+unfolding guest-physical
+guest-physical-numbers = by-numbers guest-physical 2 5 (lit< tt) (lit< tt) guest-physical-known refl
+
+pub combined-numbers : (k : ℕ) → combined k ≡ (eqb k 3 || eqb k 6)
+unfolding combined
+combined-numbers = by-numbers combined 3 6 (lit< tt) (lit< tt) combined-known refl
+
+pub translation-range : (k : ℕ) → mapping-kind k ≡ true → not (structure-cache k) ≡ leb k 3
+unfolding structure-cache
+translation-range k known =
+    agrees-true (not (structure-cache k)) (leb k 3) (of-mapping-kind (λ k. agrees (not (structure-cache k)) (leb k 3)) refl k known)
+
+pub global-marked-numbers : (k : ℕ) → global-marked k ≡ (eqb k 1 || eqb k 3)
+unfolding global-marked linear combined structure-cache
+global-marked-numbers = by-numbers global-marked 1 3 (lit< tt) (lit< tt) global-marked-known refl
+
+pub structure-cache-range : (k : ℕ) → structure-cache k ≡ (leb 4 k && leb k 6)
+unfolding structure-cache
+structure-cache-range =
+    agrees-below structure-cache (λ k. leb 4 k && leb k 6) 64 refl
+    (λ k is. mapping-kind-below k (structure-cache-known k is))
+    (λ k holds. omega (arith, leb-true k 6 (and-eq-true-iff (leb 4 k) (leb k 6) .0 holds .1)))
 
 -- a mapping is read off the bytes of its record: bytes after it do not matter
 pub mapping-agree : (r t : List ℕ) → Agree (length-of (kind-of t)) r t → mapping r ≡ mapping t
@@ -34,10 +116,24 @@ mapping-agree r t h =
 pub mapping-take : (n : ℕ) (t : List ℕ) → length-of (kind-of t) ≤ n → mapping (take n t) ≡ mapping t
 mapping-take n t h = mapping-agree (take n t) t (agree-take (length-of (kind-of t)) n t h)
 
--- a record of a known kind stands whole at the front of r; its fields may be out of their ranges
-pub record Held (r : List ℕ) : Type 0 where
-  pub known : mapping-kind (kind-of r) ≡ true
-  pub fits : length-of (kind-of r) ≤ length r
+-- a held record has 16 bytes or more, as every kind has
+pub held-length : (r : List ℕ) → Held r → 16 ≤ length r
+unfolding length-of body-of
+held-length r held =
+    le-trans (leb-true 16 (length-of (kind-of r)) (of-mapping-kind (λ k. leb 16 (length-of k)) refl (kind-of r) (held .known))) (held .fits)
+
+-- the fields that only some kinds have: VPID and PCID but for guest-physical mappings, and the global mark
+pub vpid-held : (r : List ℕ) → Held r → mapping r .vpid ≡ cond (not (guest-physical (mapping r .kind))) (number 2 1 r) 0
+unfolding mapping body-of guest-physical
+vpid-held r held = field-by-test Field.vpid 2 1 (λ k. not (guest-physical k)) refl r (held .known)
+
+pub pcid-held : (r : List ℕ) → Held r → mapping r .pcid ≡ cond (not (guest-physical (mapping r .kind))) (number 2 3 r) 0
+unfolding mapping body-of guest-physical
+pcid-held r held = field-by-test Field.pcid 2 3 (λ k. not (guest-physical k)) refl r (held .known)
+
+pub global-held : (r : List ℕ) → Held r → mapping r .global ≡ cond (global-marked (mapping r .kind)) (number 1 5 r) 0
+unfolding mapping body-of linear combined structure-cache global-marked
+global-held r held = field-by-test Field.global 1 5 global-marked refl r (held .known)
 
 -- what it is that a record starts at the front of r: it is held, and its fields are in their ranges
 pub record Starts (r : List ℕ) : Type 0 where

@@ -1,24 +1,67 @@
--- Steps: the records of the new table, its length, and the buffer that it is written to.
-use Prim.Native.Nat.{ℕ, _+_, _≤_}
-use mathlib.Core.Path.{_≡_, refl, sym}
-use mathlib.Core.Bool.{Bool, true, false, cond, not}
+-- Steps: the bytes that an event adds, room for them, the records of the new table, its length, and a
+-- step by its answer.
+use Prim.Native.Nat.{ℕ, min, _+_, _≤_}
+use mathlib.Core.Path.{_≡_, refl, sym, _∙_}
+use mathlib.Core.Bool.{Bool, true, false, cond, not, _||_}
 use mathlib.Core.List.{List, [], _∷_, _++_}
 use native.Mathlib.Omega.{arith}
-use lib.Dec.{eqb}
-use lib.ListN.{length, take, drop, length-append, length-drop}
-use lib.Seq.{take-append-seam}
-use borrow.Author.Tests.{eqb-true, ne-eqb}
+use lib.Dec.{eqb, ltb}
+use lib.ListN.{length, length-append}
+use borrow.Author.Tests.{eqb-true, ne-eqb, ltb-true, ltb-false, lt-ltb, le-ltb, not-false}
 use Rattle.model.specs.declared.Context.{Context}
+use Rattle.model.specs.declared.Step.{Step}
+use Rattle.model.specs.Buffers.{put}
 use Rattle.model.specs.Layouts.{kind-of, mapping-kind}
-use Rattle.model.specs.Tables.{joined, records, whole, only}
+use Rattle.model.specs.Tables.{limit, joined, records, whole, only}
 use Rattle.model.specs.Events.{event, valid-event}
 use Rattle.model.specs.Scopes.{next-context}
-use Rattle.model.specs.Answers.{created, answer}
-use Rattle.model.specs.Steps.{in-scope, new-table, dropped-count, stepped, overwritten}
-use Rattle.laws.specs.Lists.{Every, none, more, every-append}
+use Rattle.model.specs.Answers.{first, created, no-room, table-grounds, answer}
+use Rattle.model.specs.Steps.{in-scope, new-table, dropped-count, accepted-step, refused-step, stepped, written}
+use Rattle.laws.specs.Lists.{Every, none, more, every-head, every-tail, every-append}
 use Rattle.laws.specs.Mappings.{Valid}
 use Rattle.laws.specs.Tables.{joined-append, joined-one, every-only, records-valid, records-joined, joined-whole, length-joined-only, length-joined-records}
 use Rattle.laws.specs.Events.{creation-valid}
+use Rattle.laws.specs.Answers.{first-zero}
+
+-- the bytes that an event adds: a creation's own, or none
+pub created-creation : (e : List ℕ) → mapping-kind (kind-of e) ≡ true → created e ≡ e
+unfolding created
+created-creation e h = rw h
+
+pub created-other : (e : List ℕ) → mapping-kind (kind-of e) ≡ false → created e ≡ []
+unfolding created
+created-other e h = rw h
+
+pub length-created : (e : List ℕ) → length (created e) ≤ length e
+unfolding created
+length-created e = go (mapping-kind (kind-of e))
+  where
+    go : (b : Bool) → length (cond b e []) ≤ length e
+    go true = omega arith
+    go false = omega arith
+
+-- there is no room where the buffer or the limit is too short, and else there is
+pub no-room-either : (room : ℕ) (t e : List ℕ)
+    → (ltb room (length t + length (created e)) || ltb limit (length t + length (created e))) ≡ no-room room t e
+unfolding no-room
+no-room-either room t e = go (ltb room n) (ltb limit n) refl refl
+  where
+    n : ℕ
+    n = length t + length (created e)
+
+    go : (p q : Bool) → ltb room n ≡ p → ltb limit n ≡ q → (p || q) ≡ ltb (min room limit) n
+    go true q h k = sym (lt-ltb (min room limit) n (omega (arith, ltb-true room n h)))
+    go false true h k = sym (lt-ltb (min room limit) n (omega (arith, ltb-true limit n k)))
+    go false false h k = sym (le-ltb (min room limit) n (omega (arith, ltb-false room n h, ltb-false limit n k)))
+
+pub no-room-fits : (room : ℕ) (t e : List ℕ) → no-room room t e ≡ false → length t + length (created e) ≤ room
+unfolding no-room
+no-room-fits room t e h = omega (arith, ltb-false (min room limit) (length t + length (created e)) h)
+
+-- a table to which answers 1 to 3 do not apply is whole
+pub judged-whole : (c : Context) (t : List ℕ) → first (table-grounds c t) ≡ 0 → whole t ≡ true
+unfolding table-grounds
+judged-whole c t h = not-false (whole t) (every-head (every-tail (every-tail (first-zero (table-grounds c t) refl h))))
 
 -- the record that an event adds to the table, if it is a creation
 unfoldable pub creation : List ℕ → List (List ℕ)
@@ -64,31 +107,41 @@ length-new-table c t e =
     rw length-append
     (omega (arith, length-joined-only (λ r. not (in-scope c e r)) (records t), length-joined-records t))
 
--- a buffer with bytes put at its front has them there, and has not become shorter
-pub take-overwritten : (bytes buffer : List ℕ) → take (length bytes) (overwritten bytes buffer) ≡ bytes
-unfolding overwritten
-take-overwritten bytes buffer = take-append-seam bytes (drop (length bytes) buffer)
-
-pub length-overwritten : (bytes buffer : List ℕ) → length buffer ≤ length (overwritten bytes buffer)
-unfolding overwritten
-length-overwritten bytes buffer = simp (length-append, length-drop) (omega arith)
-
 -- a step, by its answer
-pub stepped-answer : (c : Context) (t e : List ℕ) (room : ℕ) → stepped c t e room .answer ≡ answer c t e room
+pub stepped-accepted : (c : Context) (t e : List ℕ) (room : ℕ) → answer c t e room ≡ 0 → stepped c t e room ≡ accepted-step c t e
 unfolding stepped
+stepped-accepted c t e room h = rw h
+
+pub stepped-refused : (c : Context) (t e : List ℕ) (room : ℕ) → (answer c t e room ≡ 0 → ⊥)
+    → stepped c t e room ≡ refused-step (answer c t e room) c
+unfolding stepped
+stepped-refused c t e room h = rw (ne-eqb (answer c t e room) 0 h)
+
+pub stepped-answer : (c : Context) (t e : List ℕ) (room : ℕ) → stepped c t e room .answer ≡ answer c t e room
+unfolding stepped accepted-step refused-step
 stepped-answer c t e room = go (eqb (answer c t e room) 0) refl
   where
     go : (b : Bool) → eqb (answer c t e room) 0 ≡ b → stepped c t e room .answer ≡ answer c t e room
     go true q = rw q (sym (eqb-true (answer c t e room) 0 q))
     go false q = rw q
 
-pub stepped-accepted : (c : Context) (t e : List ℕ) (room : ℕ) → answer c t e room ≡ 0
-    → stepped c t e room
-    ≡ record { answer = 0; context = next-context c (event e); length = length (new-table c t e); dropped = dropped-count c t e }
-unfolding stepped
-stepped-accepted c t e room h = rw h
+-- what an accepted step hands back, field by field
+pub accepted-step-is : (c : Context) (t e : List ℕ) {r : Step} → r .answer ≡ 0 → r .context ≡ next-context c (event e)
+    → r .length ≡ length (new-table c t e) → r .dropped ≡ dropped-count c t e → r ≡ accepted-step c t e
+unfolding accepted-step
+accepted-step-is c t e answer context length dropped =
+    λ i. record { answer = answer i; context = context i; length = length i; dropped = dropped i }
 
-pub stepped-refused : (c : Context) (t e : List ℕ) (room : ℕ) → (answer c t e room ≡ 0 → ⊥)
-    → stepped c t e room ≡ record { answer = answer c t e room; context = c; length = 0; dropped = 0 }
-unfolding stepped
-stepped-refused c t e room h = rw (ne-eqb (answer c t e room) 0 h)
+-- a step and the buffer after it, by its answer
+module _ (c : Context) (t e b : List ℕ) where
+  pub step-accepted : answer c t e (length b) ≡ 0 → {r : Step} {after : List ℕ} → r ≡ accepted-step c t e → after ≡ put 0 (new-table c t e) b
+      → (r ≡ stepped c t e (length b)) × (after ≡ written c t e b)
+  unfolding written
+  step-accepted h told made = (told ∙ sym (stepped-accepted c t e (length b) h), made ∙ rw h)
+
+  pub step-refused : {n : ℕ} → answer c t e (length b) ≡ n → (n ≡ 0 → ⊥) → {r : Step} → r ≡ refused-step n c
+      → (r ≡ stepped c t e (length b)) × (b ≡ written c t e b)
+  unfolding written
+  step-refused is some told =
+      let refused : answer c t e (length b) ≡ 0 → ⊥ = λ z. some (sym is ∙ z) in
+      (told ∙ rw (stepped-refused c t e (length b) refused, is), rw (ne-eqb (answer c t e (length b)) 0 refused))

@@ -10,10 +10,10 @@ use lib.ListN.{length, take, drop, length-append, length-take, length-drop, drop
 use lib.Seq.{take-length, take-all, length-take-le, take-at, drop-at, drop-drop, take-add}
 use borrow.Author.Tests.{eqb-true, eq-eqb}
 use Rattle.model.specs.Layouts.{kind-of, length-of}
-use Rattle.model.specs.Mappings.{mapping, record-length}
+use Rattle.model.specs.Mappings.{mapping, Held, record-length}
 use Rattle.model.specs.Tables.{joined, cut, records-within, records, whole, only, count}
 use Rattle.laws.specs.Lists.{Every, none, more, cond-append}
-use Rattle.laws.specs.Mappings.{Held, Valid, mapping-take, held-record-length, record-length-kind, record-length-le, valid-take, valid-append}
+use Rattle.laws.specs.Mappings.{Valid, mapping-take, held-record-length, record-length-kind, record-length-le, valid-take, valid-append}
 
 -- records end to end
 pub joined-append : (rs ss : List (List ℕ)) → joined (rs ++ ss) ≡ joined rs ++ joined ss

@@ -1,3 +1,2 @@
 pub mod Search
-pub mod Searching
-pub mod Empty
+pub mod Laws

@@ -6,10 +6,9 @@ ghost use mathlib.Core.Path.{_≡_};
 ghost use lib.ListN.{length};
 ghost use mathlib.Core.Bool.{true};
 ghost use Prim.Native.Nat.{_+_};
-ghost use Rattle.model.specs.Mappings.{mapping};
+ghost use Rattle.model.specs.Mappings.{mapping, Held};
 ghost use Rattle.model.specs.Tables.{whole};
 ghost use Rattle.model.specs.Lookups.{translates-linear, usable, lookup-answer, lookup, lookup-start};
-ghost use Rattle.laws.specs.Mappings.{Held};
 ghost use Rattle.lookups.specs.Search.{Searched};
 
 // The record translates linear addresses under the EPT state: kinds 1 and 4 with EPT off, kinds 3 and
@@ -20,8 +19,8 @@ fn is_translating(ept: Ept, part: &[u8]) -> bool
 {
     let kind = mappings::kind(part);
     match ept {
-        Ept::Off => (kind == 1) | (kind == 4),
-        Ept::On(current) => ((kind == 3) | (kind == 6)) & (mappings::ep4ta(part) == current),
+        Ept::Off => kinds::is_linear(kind),
+        Ept::On(current) => kinds::is_combined(kind) & (mappings::ep4ta(part) == current),
     }
 }
 
@@ -43,10 +42,9 @@ fn is_usable(c: Context, a: Address, part: &[u8]) -> bool
                 & is_translating(ept, part)
         }
         Address::GuestPhysical(address) => {
-            let kind = mappings::kind(part);
             (address < model::GUEST_PHYSICAL_LIMIT)
                 & mappings::is_covering(part, addresses::page(address))
-                & ((kind == 2) | (kind == 5))
+                & kinds::is_guest_physical(mappings::kind(part))
                 & contexts::is_current_ep4ta(ept, mappings::ep4ta(part))
         }
     }

@@ -1,43 +1,12 @@
 // Mapping records: the reader, and the single fields of a record. A record is handed in as the part
-// of the table that starts at its kind byte; what follows the record is not looked at. The kinds of a
-// table come in any order, so lengths and places of spans are read by shifts and not by branches.
+// of the table that starts at its kind byte; what follows the record is not looked at.
 use model::Mapping;
 use model::Reading;
 ghost use mathlib.Core.Path.{_≡_};
-ghost use Prim.Native.Nat.{_≤_, _*_, _/_, _%_, _^_};
-ghost use Rattle.model.specs.Layouts.{kind-of, mapping-kind, length-of};
-ghost use Rattle.model.specs.Mappings.{mapping, record-length, reading, span-in-range, page-in-range, fields-in-range, global-translation, covers};
-ghost use Rattle.laws.specs.Mappings.{Held};
+ghost use Prim.Native.Nat.{_≤_};
+ghost use Rattle.model.specs.Layouts.{kind-of, length-of};
+ghost use Rattle.model.specs.Mappings.{mapping, Held, record-length, reading, page-in-range, fields-in-range, global-translation, covers};
 ghost use Rattle.mappings.specs.Spans.{SpanAt};
-
-// How long a record is, by kind, a byte for each, kind 0 in the lowest.
-const LENGTHS: u64 = 0x15_1110_1611_1100;
-
-// Where its span stands, in the same way.
-const SPANS: u64 = 0x05_0605_0606_0600;
-
-// The number of a kind among such bytes.
-fn of_kind(numbers: u64, kind: u64) -> usize
-    requires { ⌜ kind ≤ 6 ⌝ }
-    ensures { λ r. ⌜ r ≡ numbers / 2 ^ (8 * kind) % 256 ⌝ }
-{
-    ((numbers >> (8 * kind)) % 256) as usize
-}
-
-// The kind is a mapping's.
-fn is_kind(kind: u64) -> bool
-    ensures { λ r. ⌜ r ≡ mapping-kind kind ⌝ }
-{
-    (1 <= kind) & (kind <= 6)
-}
-
-// The span is in the range of its kind.
-fn is_span(kind: u64, span: u64) -> bool
-    ensures { λ r. ⌜ r ≡ span-in-range kind span ⌝ }
-{
-    let translation = kind <= 3;
-    (translation & (span <= 2)) | (!translation & ((1 <= span) & (span <= 3)))
-}
 
 // The page is below 2^36 and a multiple of the span's pages.
 fn is_page(span: u64, page: u64) -> bool
@@ -60,7 +29,7 @@ fn span_at(part: &[u8]) -> usize
     requires { ⌜ Held (now part) ⌝ }
     ensures { λ r. ⌜ SpanAt (now (part .entry)) r ⌝ }
 {
-    of_kind(SPANS, kind(part))
+    kinds::place_of_span(kind(part))
 }
 
 // The span of the record at the front.
@@ -92,24 +61,24 @@ pub fn length_of_held(part: &[u8]) -> usize
     requires { ⌜ Held (now part) ⌝ }
     ensures { λ r. ⌜ r ≡ length-of (kind-of (now (part .entry))) ⌝ }
 {
-    of_kind(LENGTHS, kind(part))
+    kinds::length_of_mapping(kind(part))
 }
 
 // The fields of the record at the front are in their ranges.
-fn is_in_ranges(part: &[u8]) -> bool
+pub fn is_in_ranges(part: &[u8]) -> bool
     requires { ⌜ Held (now part) ⌝ }
     ensures { λ r. ⌜ r ≡ fields-in-range (mapping (now (part .entry))) ⌝ }
 {
     let kind = kind(part);
     let span = span(part);
-    if !is_span(kind, span) {
+    if !kinds::is_span(kind, span) {
         return false;
     }
     let global = numbers::number1(part, 5);
     let pcid = numbers::number2(part, 3);
     let page = page(part);
-    (!((kind == 1) | (kind == 3)) | (global <= 1))
-        & (((kind == 2) | (kind == 5)) | (pcid <= model::PCID_MAX))
+    (!kinds::is_global_marked(kind) | (global <= 1))
+        & (kinds::is_guest_physical(kind) | (pcid <= model::PCID_MAX))
         & is_page(span, page)
 }
 
@@ -121,10 +90,10 @@ pub fn length_of_record(part: &[u8]) -> usize
         return 0;
     }
     let kind = numbers::number1(part, 0);
-    if !is_kind(kind) {
+    if !kinds::is_mapping(kind) {
         return 0;
     }
-    let length = of_kind(LENGTHS, kind);
+    let length = kinds::length_of_mapping(kind);
     if part.len() < length {
         return 0;
     }
@@ -136,9 +105,10 @@ pub fn vpid(part: &[u8]) -> u64
     requires { ⌜ Held (now part) ⌝ }
     ensures { λ r. ⌜ r ≡ mapping (now (part .entry)) .vpid ⌝ }
 {
-    match part[0] {
-        2 | 5 => 0,
-        _ => numbers::number2(part, 1),
+    if !kinds::is_guest_physical(kind(part)) {
+        numbers::number2(part, 1)
+    } else {
+        0
     }
 }
 
@@ -147,9 +117,10 @@ pub fn pcid(part: &[u8]) -> u64
     requires { ⌜ Held (now part) ⌝ }
     ensures { λ r. ⌜ r ≡ mapping (now (part .entry)) .pcid ⌝ }
 {
-    match part[0] {
-        2 | 5 => 0,
-        _ => numbers::number2(part, 3),
+    if !kinds::is_guest_physical(kind(part)) {
+        numbers::number2(part, 3)
+    } else {
+        0
     }
 }
 
@@ -158,9 +129,10 @@ fn global(part: &[u8]) -> u64
     requires { ⌜ Held (now part) ⌝ }
     ensures { λ r. ⌜ r ≡ mapping (now (part .entry)) .global ⌝ }
 {
-    match part[0] {
-        1 | 3 => numbers::number1(part, 5),
-        _ => 0,
+    if kinds::is_global_marked(kind(part)) {
+        numbers::number1(part, 5)
+    } else {
+        0
     }
 }
 
@@ -169,21 +141,21 @@ pub fn ep4ta(part: &[u8]) -> u64
     requires { ⌜ Held (now part) ⌝ }
     ensures { λ r. ⌜ r ≡ mapping (now (part .entry)) .ep4ta ⌝ }
 {
-    match part[0] {
-        2 | 5 => numbers::number5(part, 1),
-        3 => numbers::number5(part, 17),
-        6 => numbers::number5(part, 16),
-        _ => 0,
+    let place = kinds::place_of_ep4ta(kind(part));
+    if place == 0 {
+        0
+    } else {
+        numbers::number5(part, place)
     }
 }
 
-// The record at the front is a global translation: kind 1 or 3 with global 1.
+// The record at the front is a global translation: its kind carries a global mark, and the mark is 1.
 pub fn is_global_translation(part: &[u8]) -> bool
     requires { ⌜ Held (now part) ⌝ }
     ensures { λ r. ⌜ r ≡ global-translation (mapping (now (part .entry))) ⌝ }
 {
     let kind = kind(part);
-    ((kind == 1) | (kind == 3)) & (numbers::number1(part, 5) == 1)
+    kinds::is_global_marked(kind) & (numbers::number1(part, 5) == 1)
 }
 
 // The record at the front covers a page.
@@ -197,7 +169,7 @@ pub fn is_covering(part: &[u8], p: u64) -> bool
 }
 
 // The mapping that a held record says.
-fn mapping_of(part: &[u8]) -> Mapping
+pub fn mapping_of(part: &[u8]) -> Mapping
     requires { ⌜ Held (now part) ⌝ }
     ensures { λ r. ⌜ r ≡ mapping (now (part .entry)) ⌝ }
 {

@@ -101,49 +101,14 @@ exits c e = among (kind-number e) (16 ∷ 17 ∷ 20 ∷ 22 ∷ 23 ∷ []) && in-
 unfoldable pub general-protection : Context → Event → Bool
 general-protection c e = among (kind-number e) (16 ∷ 17 ∷ 18 ∷ 20 ∷ 22 ∷ 23 ∷ []) && ltb 0 (c .cpl)
 
--- 8, "VMfail, invalid operand"
-unfoldable pub invalid-operand : Context → Event → Bool
-invalid-operand c (Creation m) = false
-invalid-operand c (Invvpid o) = bad-invvpid c o
-invalid-operand c (Invept o) = bad-invept c o
-invalid-operand c (Invlpg address) = false
-invalid-operand c (EptViolation v) = false
-invalid-operand c (Entry n) = false
-invalid-operand c (Exit pcid) = false
-invalid-operand c Vmxon = false
-invalid-operand c Vmxoff = false
-invalid-operand c (NewPcid n) = false
-invalid-operand c Reset = false
-
 -- EPT is in use
 abbrev pub ept-in-use : Ept → Bool
 ept-in-use Off = false
 ept-in-use (On ep4ta) = true
 
--- 9, "VMXON in root; VM exit not in a guest; EPT violation not in a guest with EPT"
-unfoldable pub out-of-place : Context → Event → Bool
-out-of-place c e =
-    (eqb (kind-number e) 22 && in-root (c .place))
-    || (eqb (kind-number e) 21 && not (in-guest (c .place)))
-    || (eqb (kind-number e) 19 && not (ept-in-use (current-ept (c .place))))
-
 -- "VM entry: VPIDs enabled with VPID 0, or EPT enabled with a bad EPTP"
 unfoldable pub bad-entry : Context → Entry.Entry → Bool
 bad-entry c n = (eqb (n .vpids) 1 && eqb (n .vpid) 0) || (eqb (n .ept) 1 && not (good-eptp c (n .eptp)))
-
--- 10, of a VM entry
-unfoldable pub entry-fails : Context → Event → Bool
-entry-fails c (Creation m) = false
-entry-fails c (Invvpid o) = false
-entry-fails c (Invept o) = false
-entry-fails c (Invlpg address) = false
-entry-fails c (EptViolation v) = false
-entry-fails c (Entry n) = bad-entry c n
-entry-fails c (Exit pcid) = false
-entry-fails c Vmxon = false
-entry-fails c Vmxoff = false
-entry-fails c (NewPcid n) = false
-entry-fails c Reset = false
 
 -- "Creation: kinds 1 and 4 need EPT not in use and the current VPID and PCID. Kinds 2 and 5 need EPT
 -- in use and the current EP4TA. Kinds 3 and 6 need EPT in use and all three tags current." (000,
@@ -160,19 +125,21 @@ creatable c m =
     && eqb (m .vpid) (current-vpid (c .place))
     && eqb (m .pcid) (c .pcid))
 
+-- the number of the ground that is an event's own, or 0; no event has two. 8, "VMfail, invalid operand";
+-- 9, "VMXON in root; VM exit not in a guest; EPT violation not in a guest with EPT"; 10, of a VM entry;
 -- 11, "a mapping that cannot be created here"
-unfoldable pub creation-fails : Context → Event → Bool
-creation-fails c (Creation m) = not (creatable c m)
-creation-fails c (Invvpid o) = false
-creation-fails c (Invept o) = false
-creation-fails c (Invlpg address) = false
-creation-fails c (EptViolation v) = false
-creation-fails c (Entry n) = false
-creation-fails c (Exit pcid) = false
-creation-fails c Vmxon = false
-creation-fails c Vmxoff = false
-creation-fails c (NewPcid n) = false
-creation-fails c Reset = false
+unfoldable pub own-ground : Context → Event → ℕ
+own-ground c (Creation m) = cond (not (creatable c m)) 11 0
+own-ground c (Invvpid o) = cond (bad-invvpid c o) 8 0
+own-ground c (Invept o) = cond (bad-invept c o) 8 0
+own-ground c (Invlpg address) = 0
+own-ground c (EptViolation v) = cond (not (ept-in-use (current-ept (c .place)))) 9 0
+own-ground c (Entry n) = cond (bad-entry c n) 10 0
+own-ground c (Exit pcid) = cond (not (in-guest (c .place))) 9 0
+own-ground c Vmxon = cond (in-root (c .place)) 9 0
+own-ground c Vmxoff = 0
+own-ground c (NewPcid n) = 0
+own-ground c Reset = 0
 
 -- the bytes that an event adds to the table: a creation's own
 unfoldable pub created : List ℕ → List ℕ
@@ -183,9 +150,16 @@ created e = cond (mapping-kind (kind-of e)) e []
 unfoldable pub no-room : ℕ → List ℕ → List ℕ → Bool
 no-room room t e = ltb (min room limit) (length t + length (created e))
 
+-- 3 and 4 are given where these fail: the table is whole, valid records, the event exactly one
+abbrev pub valid-table : List ℕ → Bool
+valid-table t = whole t
+
+abbrev pub valid-here : List ℕ → Bool
+valid-here e = valid-event e
+
 -- 1 to 3, of the context and the old table
 unfoldable pub table-grounds : Context → List ℕ → List (ℕ × Bool)
-table-grounds c t = (1, not (in-range c)) ∷ (2, ltb limit (length t)) ∷ (3, not (whole t)) ∷ []
+table-grounds c t = (1, not (in-range c)) ∷ (2, ltb limit (length t)) ∷ (3, not (valid-table t)) ∷ []
 
 -- 5 to 11, of the context and the event
 unfoldable pub event-grounds : Context → Event → List (ℕ × Bool)
@@ -193,10 +167,10 @@ event-grounds c e =
     (5, invalid-opcode c e)
     ∷ (6, exits c e)
     ∷ (7, general-protection c e)
-    ∷ (8, invalid-operand c e)
-    ∷ (9, out-of-place c e)
-    ∷ (10, entry-fails c e)
-    ∷ (11, creation-fails c e)
+    ∷ (8, eqb (own-ground c e) 8)
+    ∷ (9, eqb (own-ground c e) 9)
+    ∷ (10, eqb (own-ground c e) 10)
+    ∷ (11, eqb (own-ground c e) 11)
     ∷ []
 
 -- the answer that context and event alone give: 5 to 11, or 0
@@ -208,7 +182,7 @@ event-answer c e = first (event-grounds c e)
 unfoldable pub grounds : Context → List ℕ → List ℕ → ℕ → List (ℕ × Bool)
 grounds c t e room =
     table-grounds c t
-    ++ ((4, not (valid-event e)) ∷ [])
+    ++ ((4, not (valid-here e)) ∷ [])
     ++ event-grounds c (event e)
     ++ ((12, no-room room t e) ∷ [])
 

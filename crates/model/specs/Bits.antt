@@ -1,7 +1,7 @@
 -- Bits and little-endian numbers.
 use Prim.Native.Nat.{ℕ, zero, suc, _+_, _-_, _*_, _/_, _%_, _^_}
 use mathlib.Core.Bool.{Bool}
-use mathlib.Core.List.{List}
+use mathlib.Core.List.{List, [], _∷_}
 use lib.Dec.{eqb}
 use lib.ListN.{getD}
 
@@ -28,3 +28,8 @@ abbrev pub number : ℕ → ℕ → List ℕ → ℕ
 number zero at r = 0
 number (suc zero) at r = getD r at 0
 number (suc (suc n)) at r = getD r at 0 + 256 * number (suc n) (at + 1) r
+
+-- the n bytes of a number, little-endian
+unfoldable pub bytes : ℕ → ℕ → List ℕ
+bytes zero x = []
+bytes (suc n) x = x % 256 ∷ bytes n (x / 256)

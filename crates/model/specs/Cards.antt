@@ -1,8 +1,8 @@
 -- Document 01, "Bench cards": the starred cards, and rows of our own for the mistakes that the
--- document lists and for every answer, scope and change of context, all as rows under a single
+-- document lists and for every answer, scope, reason and change of context, all as rows under a single
 -- statement about the definitions.
-use Prim.Native.Nat.{ℕ, zero, suc, _+_, _-_, _/_, _%_, _^_}
-use mathlib.Core.Bool.{Bool, true, false, _&&_}
+use Prim.Native.Nat.{ℕ, _+_, _-_, _^_}
+use mathlib.Core.Bool.{Bool, true, false, not, _&&_}
 use mathlib.Core.List.{List, [], _∷_, _++_, map}
 use mathlib.Core.Path.{_≡_, refl}
 use lib.Dec.{eqb}
@@ -14,20 +14,18 @@ use Rattle.model.specs.declared.Address.{Address}
 use Rattle.model.specs.declared.Address.the-variants.{Linear, GuestPhysical}
 use Rattle.model.specs.declared.Ept.{Ept}
 use Rattle.model.specs.declared.Ept.the-variants.{Off, On}
+use Rattle.model.specs.Bits.{bytes}
+use Rattle.model.specs.Buffers.{put}
 use Rattle.model.specs.Context.{in-range, after-reset}
 use Rattle.model.specs.Layouts.{kind-of, mapping-kind, event-kind, body-of, length-of, field}
-use Rattle.model.specs.Mappings.{mapping, fields-in-range, starts-record, record-length, covers}
+use Rattle.model.specs.Mappings.{mapping, structure-cache, global-marked, fields-in-range, starts-record, record-length, covers}
 use Rattle.model.specs.Tables.{joined, cut, records-within, records, whole, only, count}
 use Rattle.model.specs.Events.{canonical, operands, violation, entry, new-pcid, event, event-in-range, valid-event}
-use Rattle.model.specs.Scopes.{invvpid-scope, invept-scope, invlpg-scope, guest-physical-violation-scope, combined-violation-scope, transition-scope, scope, entered, next-context}
-use Rattle.model.specs.Answers.{first, good-eptp, invvpid-supported, bad-invvpid, invept-supported, bad-invept, invalid-opcode, exits, general-protection, invalid-operand, out-of-place, bad-entry, entry-fails, creatable, creation-fails, created, no-room, table-grounds, event-grounds, grounds, answer}
-use Rattle.model.specs.Steps.{new-table, dropped-count, stepped, overwritten, written}
+use Rattle.model.specs.Scopes.{invvpid-tests, invept-tests, invlpg-tests, guest-physical-violation-tests, combined-violation-tests, violation-tests, transition-tests, has-scope, scope, entered, next-context}
+use Rattle.model.specs.Answers.{first, good-eptp, invvpid-supported, bad-invvpid, invept-supported, bad-invept, invalid-opcode, exits, general-protection, bad-entry, creatable, own-ground, created, no-room, table-grounds, event-grounds, grounds, answer}
+use Rattle.model.specs.Steps.{new-table, dropped-count, accepted-step, refused-step, stepped, written}
 use Rattle.model.specs.Lookups.{translates-linear, usable, usable-records, lookup-answer, lookup, start-of, lookup-start}
-
--- n bytes of a number, little-endian
-bytes : ℕ → ℕ → List ℕ
-bytes zero x = []
-bytes (suc n) x = x % 256 ∷ bytes n (x / 256)
+use Rattle.model.specs.Reasons.{first-failed, reason, one-record, explained-answer, explanation, explanation-number, explanation-answer}
 
 same : List ℕ → List ℕ → Bool
 same [] [] = true
@@ -87,6 +85,19 @@ shows k =
     && eqb (lookup-start (k .context) (k .address) (k .table) (k .nth)) (k .start)
     && same (lookup (k .context) (k .address) (k .table) (k .nth)) (k .part)
 
+-- a reason: a record and an event, the number of why the record goes or stays, and the answer of a refusal
+record Why : Type 0 where
+  context : Context
+  bytes : List ℕ
+  event : List ℕ
+  number : ℕ
+  answer : ℕ
+
+tells : Why → Bool
+tells k =
+    eqb (explanation-number (explanation (k .context) (k .bytes) (k .event))) (k .number)
+    && eqb (explanation-answer (explanation (k .context) (k .bytes) (k .event))) (k .answer)
+
 all : {A : Type 0} → (A → Bool) → List A → Bool
 all p [] = true
 all p (x ∷ xs) = p x && all p xs
@@ -144,6 +155,16 @@ combined-structure : ℕ → ℕ → ℕ → ℕ → List ℕ
 combined-structure vpid pcid span page =
     6 ∷ bytes 2 vpid ++ bytes 2 pcid ++ (span ∷ []) ++ bytes 5 page ++ bytes 5 9 ++ bytes 5 0x1234567
 
+-- a table of each translation, and of each structure cache; the latter with VPID 0
+translations : List ℕ
+translations = linear 0 1 1 0 0 ++ guest-physical 0 0 ++ combined 0 1 0 0 0
+
+structures : List ℕ
+structures = linear-structure 5 1 1 0 ++ guest-physical-structure 1 0 ++ combined-structure 5 1 1 0
+
+structures-of-0 : List ℕ
+structures-of-0 = linear-structure 0 1 1 0 ++ combined-structure 0 1 1 0
+
 -- the other events
 invvpid : ℕ → ℕ → ℕ → List ℕ
 invvpid type low high = 16 ∷ bytes 8 type ++ bytes 8 low ++ bytes 8 high
@@ -182,6 +203,9 @@ finds c a t k start part = record { context = c; address = a; table = t; nth = k
 
 misses : Context → Address → List ℕ → ℕ → ℕ → Look
 misses c a t k answer = record { context = c; address = a; table = t; nth = k; answer = answer; start = 0; part = [] }
+
+says : Context → List ℕ → List ℕ → ℕ → Why
+says c r e n = record { context = c; bytes = r; event = e; number = n; answer = 0 }
 
 -- the starred cards, in the document's order
 starred : List Card
@@ -327,8 +351,8 @@ answered =
     ∷ []
 
 -- the scopes, and the mistakes that the document lists
-scoped : List Card
-scoped =
+dropping : List Card
+dropping =
     -- INVVPID: global or not, all PCIDs; mistake 2: kinds 2 and 5 stay; VPID 0 stays under type 2
     accepts root (linear 5 9 1 0 0x12345) (invvpid 0 5 0x12345000) 1 []
     ∷ accepts root (linear 6 1 0 0 0x12345) (invvpid 0 5 0x12345000) 0 (linear 6 1 0 0 0x12345)
@@ -391,6 +415,90 @@ scoped =
     ∷ accepts root (A ++ A) (invvpid 1 5 0) 2 []
     ∷ []
 
+-- bounds at the last number that is in range, and rules that the rows above leave open
+bounded : List Card
+bounded =
+    -- a context's VPID, EP4TA, N, PCID and CPL at their last numbers
+    accepts (guest 65535) [] (linear 65535 1 0 0 0) 0 (linear 65535 1 0 0 0)
+    ∷ accepts (at program 52 1 0 (Guest (record { vpid = 5; ept = On (2 ^ 40 - 1) }))) G (invlpg 0) 0 G
+    ∷ moves (at program 36 4095 3 Root) G (new-pcid-cpl 4095 3) 0 G (at program 36 4095 3 Root)
+    -- the current VPID is 0 in root and outside
+    ∷ accepts root (linear 0 0 0 0 0x12345) (invlpg 0x12345000) 1 []
+    ∷ accepts outside (linear 0 0 0 0 0x12345) (invlpg 0x12345000) 1 []
+    ∷ accepts root (linear 1 0 0 0 0x12345) (invlpg 0x12345000) 0 (linear 1 0 0 0 0x12345)
+    ∷ accepts root [] (linear 0 0 0 0 0) 0 (linear 0 0 0 0 0)
+    ∷ accepts outside [] (linear 0 0 0 0 0) 0 (linear 0 0 0 0 0)
+    ∷ refuses outside [] (linear 1 0 0 0 0) 11
+    -- a creation asks the VPID
+    ∷ refuses (guest 6) [] A 11
+    ∷ refuses (guest 6) [] (linear-structure 5 1 1 0) 11
+    -- the named VPID has 16 bits
+    ∷ accepts root (linear 0x8005 1 0 0 0 ++ A) (invvpid 1 0x8005 0) 1 A
+    ∷ accepts root (linear 0x8005 1 0 0 0) (invvpid 3 5 0) 0 (linear 0x8005 1 0 0 0)
+    -- an entry's PCID and CPL; its VPID has 16 bits, its EP4TA 40
+    ∷ refuses root A (vm-entry 1 5 0 0 4096 0) 4
+    ∷ refuses root A (vm-entry 1 5 0 0 0 4) 4
+    ∷ moves root A (vm-entry 1 65535 0 0 4095 3) 0 A (at program 52 4095 3 (Guest (record { vpid = 65535; ept = Off })))
+    ∷ moves root A (vm-entry 1 5 1 0xFFFFFFFFFF01E 4095 0) 0 A (at program 52 4095 0 (Guest (record { vpid = 5; ept = On (2 ^ 40 - 1) })))
+    ∷ moves (guest 5) A (vm-exit 4095) 0 A (at program 52 4095 0 Root)
+    -- an EPT violation at the last guest-physical page, and at both ends of the linear addresses
+    ∷ accepts (ept-guest 5) (guest-physical 0 (2 ^ 36 - 1)) (ept-violation (2 ^ 48 - 1) 0 0) 1 []
+    ∷ accepts (ept-guest 5) (combined 5 1 0 0 (2 ^ 35 - 1)) (ept-violation 0 1 0x7FFFFFFFFFFF) 1 []
+    ∷ accepts (ept-guest 5) (combined 5 1 0 0 (2 ^ 35)) (ept-violation 0 1 0xFFFF800000000000) 1 []
+    -- its combined records by the page, at each span
+    ∷ accepts (ept-guest 5) (combined 5 1 0 0 0x12346) (ept-violation 0 1 0x12345000) 0 (combined 5 1 0 0 0x12346)
+    ∷ accepts (ept-guest 5) (combined 5 1 0 1 0x12200) (ept-violation 0 1 0x12345000) 1 []
+    ∷ accepts (ept-guest 5) (combined 5 1 0 1 0x12400) (ept-violation 0 1 0x12345000) 0 (combined 5 1 0 1 0x12400)
+    ∷ accepts (ept-guest 5) (combined-structure 5 1 2 0) (ept-violation 0 1 0x12345000) 1 []
+    ∷ accepts (ept-guest 5) (combined-structure 5 1 2 0x40000) (ept-violation 0 1 0x12345000) 0 (combined-structure 5 1 2 0x40000)
+    ∷ accepts (ept-guest 5) (guest-physical 1 0x12200 ++ guest-physical 1 0x12400) (ept-violation 0x12345000 0 0) 1 (guest-physical 1 0x12400)
+    ∷ accepts (ept-guest 5) (guest-physical-structure 2 0x40000) (ept-violation 0x12345000 0 0) 0 (guest-physical-structure 2 0x40000)
+    -- the current EP4TA is the very one, neither a lower nor a higher
+    ∷ accepts (at program 52 1 0 (Guest (record { vpid = 5; ept = On 0x1234568 }))) (G ++ combined 5 1 0 0 0x10) (ept-violation 0x10000 1 0x10000) 0
+    (G ++ combined 5 1 0 0 0x10)
+    ∷ refuses (at program 52 1 0 (Guest (record { vpid = 5; ept = On 0x1234568 }))) [] G 11
+    ∷ refuses (at program 52 1 0 (Guest (record { vpid = 5; ept = On 0x1234566 }))) [] (combined 5 1 0 0 0) 11
+    -- INVEPT type 2 takes every EP4TA; type 1 neither a lower nor a higher
+    ∷ accepts root (G ++ combined 5 1 1 0 0) (invept 2 0 0) 2 []
+    ∷ accepts root (guest-physical-structure 1 0 ++ combined-structure 0 1 1 0) (invept 2 0xFFFF 0) 2 []
+    ∷ accepts root G (invept 1 0x123456601E 0) 0 G
+    -- INVLPG leaves globals of another page, and of another VPID
+    ∷ accepts (guest 5) (linear 5 2 1 0 0x12346) (invlpg 0x12345000) 0 (linear 5 2 1 0 0x12346)
+    ∷ accepts (guest 6) (linear 5 2 1 0 0x12345) (invlpg 0x12345000) 0 (linear 5 2 1 0 0x12345)
+    ∷ accepts (guest 5) (linear 5 1 0 1 0x12200 ++ linear 5 1 0 1 0x12400) (invlpg 0x12345000) 1 (linear 5 1 0 1 0x12400)
+    -- VMXON, VMXOFF, kind 24 and a creation drop none of the six kinds
+    ∷ moves (at program 40 9 0 Outside) translations (22 ∷ []) 0 translations (at program 40 9 0 Root)
+    ∷ moves (at program 40 9 0 Outside) structures (22 ∷ []) 0 structures (at program 40 9 0 Root)
+    ∷ moves (at program 40 9 0 Root) translations (23 ∷ []) 0 translations (at program 40 9 0 Outside)
+    ∷ moves (at program 40 9 0 Root) structures (23 ∷ []) 0 structures (at program 40 9 0 Outside)
+    ∷ moves (at program 40 9 1 Root) translations (new-pcid-cpl 1 2) 0 translations (at program 40 1 2 Root)
+    ∷ moves (at program 40 9 1 Root) structures (new-pcid-cpl 1 2) 0 structures (at program 40 1 2 Root)
+    ∷ accepts (ept-guest 0) (linear 0 1 0 0 0 ++ combined 0 1 0 0 0) (combined 0 1 0 0 0) 0 (linear 0 1 0 0 0 ++ combined 0 1 0 0 0 ++ combined 0 1 0 0 0)
+    ∷ accepts (ept-guest 0) structures-of-0 (guest-physical 0 0) 0 (structures-of-0 ++ guest-physical 0 0)
+    -- N and the capability stay where the context moves
+    ∷ moves (at without-21 40 9 0 Root) A (vm-entry 1 5 0 0 1 2) 0 A (at without-21 40 1 2 (Guest (record { vpid = 5; ept = Off })))
+    ∷ moves (at without-21 40 9 2 (Guest (record { vpid = 5; ept = Off }))) A (vm-exit 3) 0 A (at without-21 40 3 0 Root)
+    ∷ moves (at without-21 40 9 2 (Guest (record { vpid = 5; ept = On 7 }))) A (new-pcid-cpl 3 1) 0 A (at without-21 40 3 1 (Guest (record { vpid = 5; ept = On 7 })))
+    ∷ moves (at without-21 40 9 2 Root) A (25 ∷ []) 1 [] (at without-21 40 0 0 Outside)
+    -- an entry without VPIDs and an exit of such a guest take VPID 0 alone, kinds 2 and 5 stay
+    ∷ moves root (linear 1 0 0 0 0 ++ guest-physical-structure 1 0 ++ linear-structure 0 1 1 0) (vm-entry 0 0 0 0 1 0) 1 (linear 1 0 0 0 0 ++ guest-physical-structure 1 0)
+    (at program 52 1 0 (Guest (record { vpid = 0; ept = Off })))
+    ∷ moves (guest 0) (linear 1 0 0 0 0 ++ guest-physical-structure 1 0 ++ combined 0 1 1 0 0) (vm-exit 0) 1 (linear 1 0 0 0 0 ++ guest-physical-structure 1 0) root
+    ∷ []
+
+-- 2 and 12 at the limit and one past it: of a table of so many bytes, the answer to a reset, and whether there
+-- is room for A behind it in a new buffer of so many
+limited : Bool
+limited =
+    eqb (answer root (replicate 45056 0) (25 ∷ []) 50000) 3
+    && eqb (answer root (replicate 45057 0) (25 ∷ []) 50000) 2
+    && not (no-room 50000 (replicate 45039 0) A)
+    && no-room 50000 (replicate 45040 0) A
+    && not (no-room 45056 (replicate 45039 0) A)
+    && no-room 45055 (replicate 45039 0) A
+    && not (no-room 45056 (replicate 45056 0) (25 ∷ []))
+    && no-room 45055 (replicate 45056 0) (25 ∷ [])
+
 -- the lengths of the kinds, with the kind byte
 lengths : Bool
 lengths =
@@ -418,12 +526,81 @@ looks =
     ∷ misses (ept-guest 9) (GuestPhysical (0x10000 + 2 ^ 48)) G 0 0
     ∷ misses (guest 9) (GuestPhysical 0x10000) G 0 0
     ∷ misses (guest 5) (Linear (2 ^ 47)) (linear 5 1 0 2 0) 0 0
+    -- the current VPID is 0 in root and outside
+    ∷ finds (at program 52 1 0 Root) (Linear 0) (linear 0 1 0 0 0) 0 0 (linear 0 1 0 0 0)
+    ∷ finds (at program 52 1 0 Outside) (Linear 0) (linear 1 1 0 0 0 ++ linear 0 1 0 0 0) 0 17 (linear 0 1 0 0 0)
+    -- guest-physical: the page, the kind, and the very EP4TA; the last address of all
+    ∷ misses (ept-guest 9) (GuestPhysical 0x11000) G 0 0
+    ∷ misses (ept-guest 5) (GuestPhysical 0x12345000) (combined 5 1 0 0 0x12345) 0 0
+    ∷ misses (at program 52 1 0 (Guest (record { vpid = 5; ept = On 0x1234568 }))) (GuestPhysical 0x10000) G 0 0
+    ∷ misses (at program 52 1 0 (Guest (record { vpid = 5; ept = On 0x1234568 }))) (Linear 0x12345000) (combined 5 1 0 0 0x12345) 0 0
+    ∷ finds (ept-guest 9) (GuestPhysical (2 ^ 48 - 1)) (guest-physical 0 (2 ^ 36 - 1)) 0 0 (guest-physical 0 (2 ^ 36 - 1))
+    -- linear: both ends, a span, and the CPL, which is not asked
+    ∷ finds (guest 5) (Linear 0xFFFF800000000000) (linear 5 1 0 0 (2 ^ 35)) 0 0 (linear 5 1 0 0 (2 ^ 35))
+    ∷ finds (guest 5) (Linear 0x7FFFFFFFFFFF) (linear 5 1 0 0 (2 ^ 35 - 1)) 0 0 (linear 5 1 0 0 (2 ^ 35 - 1))
+    ∷ misses (guest 5) (Linear 0x12400000) (linear 5 1 0 1 0x12200) 0 0
+    ∷ finds (at program 52 1 3 (Guest (record { vpid = 5; ept = Off }))) (Linear 0x12345678) (linear 5 1 0 1 0x12200) 0 0 (linear 5 1 0 1 0x12200)
+    ∷ misses (guest 5) (Linear 0x12345678) (linear-structure 5 2 1 0x12200) 0 0
     -- answers 1 and 3
     ∷ misses (at program 53 1 0 Root) (Linear 0) (linear 0 1 0 0 0) 0 1
     ∷ misses (at program 52 1 0 Root) (Linear 0) (linear 0 1 0 0 0 ++ (0 ∷ [])) 0 3
     ∷ []
 
+-- the reasons (document 02, Ask 1), in their order, each where no earlier one holds
+reasons : List Why
+reasons =
+    -- 1, refused: by the context, the bytes, the event, and by what the event may do here
+    record { context = at program 53 0 0 Root; bytes = []; event = []; number = 1; answer = 1 }
+    ∷ record { context = root; bytes = []; event = 25 ∷ []; number = 1; answer = 3 }
+    ∷ record { context = root; bytes = A ++ A; event = []; number = 1; answer = 3 }
+    ∷ record { context = root; bytes = A; event = []; number = 1; answer = 4 }
+    ∷ record { context = root; bytes = A; event = invvpid 4 5 0; number = 1; answer = 8 }
+    ∷ record { context = root; bytes = A; event = vm-exit 0; number = 1; answer = 9 }
+    -- 2, no scope
+    ∷ says (guest 5) A A 2
+    ∷ says outside A (22 ∷ []) 2
+    ∷ says root A (23 ∷ []) 2
+    ∷ says root A (new-pcid-cpl 0 0) 2
+    ∷ says root (linear 0 1 0 0 0) (vm-entry 1 5 0 0 1 0) 2
+    ∷ says (guest 5) (linear 0 1 0 0 0) (vm-exit 0) 2
+    -- 3, not canonical, whatever the record is
+    ∷ says (guest 5) G (invlpg (2 ^ 47)) 3
+    -- 4, wrong kind; an EPT violation asks combined mappings with flag 1 alone, and linear ones never
+    ∷ says root G (invvpid 0 6 0) 4
+    ∷ says root A (invept 1 0x123456801E 0) 4
+    ∷ says (guest 6) G (invlpg 0) 4
+    ∷ says (ept-guest 6) (combined 5 2 0 0 0x10) (ept-violation 0x20000 0 0x20000) 4
+    ∷ says (ept-guest 6) A (ept-violation 0 1 0) 4
+    ∷ says (guest 0) G (vm-exit 0) 4
+    -- 5, wrong VPID, of VPID 0 under type 2 too
+    ∷ says root (linear 6 1 1 0 0x12345) (invvpid 0 5 0) 5
+    ∷ says root (linear 0 1 0 0 0) (invvpid 2 0 0) 5
+    ∷ says root (linear 6 1 1 0 0) (invvpid 3 5 0) 5
+    ∷ says (guest 6) (linear 5 2 0 0 0x12345) (invlpg 0) 5
+    ∷ says (ept-guest 6) (combined 5 2 0 0 0x10) (ept-violation 0 1 0) 5
+    ∷ says root A (vm-entry 0 0 0 0 1 0) 5
+    -- 6, wrong PCID; no global translation's under INVLPG
+    ∷ says (guest 5) (linear 5 2 0 0 0x12345) (invlpg 0) 6
+    ∷ says (guest 5) (linear-structure 5 2 1 0) (invlpg 0) 6
+    ∷ says (at program 52 1 0 (Guest (record { vpid = 5; ept = On 7 }))) (combined 5 2 1 0 0x10) (ept-violation 0 1 0) 6
+    -- 7, wrong EP4TA
+    ∷ says root G (invept 1 0x123456801E 0) 7
+    ∷ says (at program 52 1 0 (Guest (record { vpid = 5; ept = On 7 }))) G (ept-violation 0 0 0) 7
+    ∷ says (at program 52 1 0 (Guest (record { vpid = 5; ept = On 7 }))) (combined 5 1 0 0 0x10) (ept-violation 0 1 0) 7
+    -- 8, not covering; a guest-physical mapping by the guest-physical page
+    ∷ says root (linear 5 9 1 0 0x12345) (invvpid 0 5 0) 8
+    ∷ says (guest 5) (linear 5 2 1 0 0x12345) (invlpg 0) 8
+    ∷ says (ept-guest 5) (guest-physical 0 0x10) (ept-violation 0 1 0x10000) 8
+    ∷ says (ept-guest 5) (combined 5 1 0 0 0x10) (ept-violation 0x10000 1 0) 8
+    -- 9, spared as global
+    ∷ says root (linear 5 1 1 0 0) (invvpid 3 5 0) 9
+    -- 10, in scope; INVLPG asks structure caches for no page (Ask 2)
+    ∷ says root (linear 5 1 1 0 0) (invvpid 1 5 0) 10
+    ∷ says (guest 5) (linear-structure 5 1 1 0x12400) (invlpg 0) 10
+    ∷ says root G (25 ∷ []) 10
+    ∷ []
+
 -- Every row holds.
-cards-hold : (all holds (starred ++ answered ++ scoped) && lengths && all shows looks) ≡ true
-unfolding bytes same ept-numbers place-numbers numbers buffer holds shows all without-21 program at root outside guest ept-guest A G linear guest-physical combined linear-structure guest-physical-structure combined-structure invvpid invept invlpg ept-violation vm-entry vm-exit new-pcid-cpl accepts moves refuses finds misses starred answered scoped lengths looks in-range after-reset kind-of mapping-kind event-kind body-of length-of field mapping fields-in-range starts-record record-length covers joined cut records-within records whole only count canonical operands violation entry new-pcid event event-in-range valid-event invvpid-scope invept-scope invlpg-scope guest-physical-violation-scope combined-violation-scope transition-scope scope entered next-context first good-eptp invvpid-supported bad-invvpid invept-supported bad-invept invalid-opcode exits general-protection invalid-operand out-of-place bad-entry entry-fails creatable creation-fails created no-room table-grounds event-grounds grounds answer new-table dropped-count stepped overwritten written translates-linear usable usable-records lookup-answer lookup start-of lookup-start
+cards-hold : (all holds (starred ++ answered ++ dropping ++ bounded) && limited && lengths && all shows looks && all tells reasons) ≡ true
+unfolding translations structures structures-of-0 bounded limited bytes same ept-numbers place-numbers numbers buffer holds shows all without-21 program at root outside guest ept-guest A G linear guest-physical combined linear-structure guest-physical-structure combined-structure invvpid invept invlpg ept-violation vm-entry vm-exit new-pcid-cpl accepts moves refuses finds misses starred answered lengths looks in-range after-reset kind-of mapping-kind event-kind body-of length-of field mapping fields-in-range starts-record record-length covers joined cut records-within records whole only count canonical operands violation entry new-pcid event event-in-range valid-event scope entered next-context first good-eptp invvpid-supported bad-invvpid invept-supported bad-invept invalid-opcode exits general-protection bad-entry creatable created no-room table-grounds event-grounds grounds answer new-table dropped-count stepped written translates-linear usable usable-records lookup-answer lookup start-of lookup-start accepted-step refused-step put Rattle.model.specs.Mappings.linear Rattle.model.specs.Mappings.guest-physical Rattle.model.specs.Mappings.combined structure-cache global-marked tells says dropping reasons invvpid-tests invept-tests invlpg-tests guest-physical-violation-tests combined-violation-tests violation-tests transition-tests has-scope first-failed reason one-record explained-answer explanation own-ground
 cards-hold = refl

@@ -2,7 +2,7 @@
 -- these tables, and one reader, `field`, serves them all.
 use Prim.Native.Nat.{ℕ, _+_}
 use mathlib.Core.Bool.{Bool, true, false, cond}
-use mathlib.Core.List.{List, [], _∷_, _++_}
+use mathlib.Core.List.{List, [], _∷_, _++_, map}
 use lib.Dec.{eqb}
 use lib.ListN.{getD}
 use Rattle.model.specs.Bits.{number}
@@ -39,15 +39,38 @@ field-number cpl = 16
 abbrev pub Body : Type 0
 Body = List (Field × ℕ)
 
+-- the manual's three sorts of mapping (000, 29.4.1), told apart by their number
+pub data Sort : Type 0 where
+  linear guest-physical combined : Sort
+
+abbrev pub sort-number : Sort → ℕ
+sort-number linear = 0
+sort-number guest-physical = 1
+sort-number combined = 2
+
+-- a row of the table of mappings: the kind, its sort, whether it is a structure cache or a
+-- translation, and its body
+pub record Row : Type 0 where
+  pub kind : ℕ
+  pub sort : Sort
+  pub cache : Bool
+  pub body : Body
+
+abbrev translation : ℕ → Sort → Body → Row
+translation kind sort body = record { kind = kind; sort = sort; cache = false; body = body }
+
+abbrev structure : ℕ → Sort → Body → Row
+structure kind sort body = record { kind = kind; sort = sort; cache = true; body = body }
+
 -- "kind | mapping | body, in order, with bytes"
-abbrev pub mapping-kinds : List (ℕ × Body)
+abbrev pub mapping-kinds : List Row
 mapping-kinds =
-    (1, (vpid, 2) ∷ (pcid, 2) ∷ (global, 1) ∷ (span, 1) ∷ (page, 5) ∷ (frame, 5) ∷ [])
-    ∷ (2, (ep4ta, 5) ∷ (span, 1) ∷ (page, 5) ∷ (frame, 5) ∷ [])
-    ∷ (3, (vpid, 2) ∷ (pcid, 2) ∷ (global, 1) ∷ (span, 1) ∷ (page, 5) ∷ (frame, 5) ∷ (ep4ta, 5) ∷ [])
-    ∷ (4, (vpid, 2) ∷ (pcid, 2) ∷ (span, 1) ∷ (page, 5) ∷ (frame, 5) ∷ [])
-    ∷ (5, (ep4ta, 5) ∷ (span, 1) ∷ (page, 5) ∷ (frame, 5) ∷ [])
-    ∷ (6, (vpid, 2) ∷ (pcid, 2) ∷ (span, 1) ∷ (page, 5) ∷ (frame, 5) ∷ (ep4ta, 5) ∷ [])
+    translation 1 linear ((vpid, 2) ∷ (pcid, 2) ∷ (global, 1) ∷ (span, 1) ∷ (page, 5) ∷ (frame, 5) ∷ [])
+    ∷ translation 2 guest-physical ((ep4ta, 5) ∷ (span, 1) ∷ (page, 5) ∷ (frame, 5) ∷ [])
+    ∷ translation 3 combined ((vpid, 2) ∷ (pcid, 2) ∷ (global, 1) ∷ (span, 1) ∷ (page, 5) ∷ (frame, 5) ∷ (ep4ta, 5) ∷ [])
+    ∷ structure 4 linear ((vpid, 2) ∷ (pcid, 2) ∷ (span, 1) ∷ (page, 5) ∷ (frame, 5) ∷ [])
+    ∷ structure 5 guest-physical ((ep4ta, 5) ∷ (span, 1) ∷ (page, 5) ∷ (frame, 5) ∷ [])
+    ∷ structure 6 combined ((vpid, 2) ∷ (pcid, 2) ∷ (span, 1) ∷ (page, 5) ∷ (frame, 5) ∷ (ep4ta, 5) ∷ [])
     ∷ []
 
 -- "kind | event | body": the events besides the creations
@@ -64,6 +87,15 @@ other-event-kinds =
     ∷ (24, (pcid, 2) ∷ (cpl, 1) ∷ [])
     ∷ (25, [])
     ∷ []
+
+-- the bodies of the mappings, by kind
+abbrev pub mapping-bodies : List (ℕ × Body)
+mapping-bodies = map (λ row. (row .kind, row .body)) mapping-kinds
+
+-- what a test says of the row of a kind; false where the kind has no row
+abbrev pub row-test : (Row → Bool) → List Row → ℕ → Bool
+row-test test [] kind = false
+row-test test (row ∷ rows) kind = cond (eqb kind (row .kind)) (test row) (row-test test rows kind)
 
 -- the kind has a row in a table of kinds
 abbrev pub known-in : List (ℕ × Body) → ℕ → Bool
@@ -95,15 +127,15 @@ kind-of r = getD r 0 0
 
 -- the kind is a mapping's
 unfoldable pub mapping-kind : ℕ → Bool
-mapping-kind kind = known-in mapping-kinds kind
+mapping-kind kind = known-in mapping-bodies kind
 
 -- the kind is an event's, a creation's among them
 unfoldable pub event-kind : ℕ → Bool
-event-kind kind = known-in (mapping-kinds ++ other-event-kinds) kind
+event-kind kind = known-in (mapping-bodies ++ other-event-kinds) kind
 
 -- the body of a kind of event, a mapping's among them
 unfoldable pub body-of : ℕ → Body
-body-of kind = body-in (mapping-kinds ++ other-event-kinds) kind
+body-of kind = body-in (mapping-bodies ++ other-event-kinds) kind
 
 -- the length of a record or event of a known kind, its kind byte with it
 unfoldable pub length-of : ℕ → ℕ

@@ -1,7 +1,8 @@
 -- Document 01, "Mapping records": what a record says, when it is valid, and what it covers.
-use Prim.Native.Nat.{ℕ, _-_, _*_, _/_, _%_, _^_}
-use mathlib.Core.Bool.{Bool, cond, _&&_, _||_}
+use Prim.Native.Nat.{ℕ, _-_, _*_, _/_, _%_, _^_, _≤_}
+use mathlib.Core.Bool.{Bool, true, cond, not, _&&_, _||_}
 use mathlib.Core.List.{List}
+use mathlib.Core.Path.{_≡_}
 use lib.Dec.{eqb, leb, ltb}
 use lib.ListN.{length}
 use Rattle.model.specs.declared.Mapping.{Mapping}
@@ -9,7 +10,7 @@ use Rattle.model.specs.declared.Reading.{Reading}
 use Rattle.model.specs.declared.Reading.the-variants.{Record, Nothing}
 use Rattle.model.specs.Bits.{linear-width, page-width}
 use Rattle.model.specs.Context.{pcid-in-range}
-use Rattle.model.specs.Layouts.{Field, field, kind-of, mapping-kind, length-of}
+use Rattle.model.specs.Layouts.{Field, Sort, sort-number, mapping-kinds, row-test, field, kind-of, mapping-kind, length-of}
 
 -- "Each record is read as the part of the table that starts at its kind byte": the mapping that
 -- starts at the front of r
@@ -26,27 +27,34 @@ mapping r =
       ep4ta = field Field.ep4ta r;
     }
 
+-- the kind's mapping is of the sort; false where the kind has no row
+abbrev pub of-sort : Sort → ℕ → Bool
+of-sort sort = row-test (λ row. eqb (sort-number (row .sort)) (sort-number sort)) mapping-kinds
+
 -- the manual's three sorts of mapping (000, 29.4.1), each a translation or a structure cache
-abbrev pub linear : ℕ → Bool
-linear kind = eqb kind 1 || eqb kind 4
+unfoldable pub linear : ℕ → Bool
+linear = of-sort Sort.linear
 
-abbrev pub guest-physical : ℕ → Bool
-guest-physical kind = eqb kind 2 || eqb kind 5
+unfoldable pub guest-physical : ℕ → Bool
+guest-physical = of-sort Sort.guest-physical
 
-abbrev pub combined : ℕ → Bool
-combined kind = eqb kind 3 || eqb kind 6
+unfoldable pub combined : ℕ → Bool
+combined = of-sort Sort.combined
 
--- kinds 4 to 6 are structure caches, the others translations
-abbrev pub structure-cache : ℕ → Bool
-structure-cache kind = leb 4 kind
+unfoldable pub structure-cache : ℕ → Bool
+structure-cache = row-test (λ row. row .cache) mapping-kinds
 
--- a global translation: kinds 1 and 3 with global 1; a structure cache carries no global mark
+-- linear and combined translations carry a global mark; structure caches carry none
+unfoldable pub global-marked : ℕ → Bool
+global-marked kind = (linear kind || combined kind) && not (structure-cache kind)
+
+-- a global translation: "kinds 1 and 3 with global 1"
 abbrev pub global-translation : Mapping → Bool
-global-translation m = (eqb (m .kind) 1 || eqb (m .kind) 3) && eqb (m .global) 1
+global-translation m = global-marked (m .kind) && eqb (m .global) 1
 
 -- "Span s is 0 to 2 for kinds 1 to 3 and 1 to 3 for kinds 4 to 6."
 abbrev pub span-in-range : ℕ → ℕ → Bool
-span-in-range kind span = cond (leb kind 3) (leb span 2) (leb 1 span && leb span 3)
+span-in-range kind span = cond (structure-cache kind) (leb 1 span && leb span 3) (leb span 2)
 
 -- how many pages a span has: 2^(9s)
 abbrev pub pages : ℕ → ℕ
@@ -64,6 +72,11 @@ fields-in-range m =
     && pcid-in-range (m .pcid)
     && span-in-range (m .kind) (m .span)
     && page-in-range (m .span) (m .page)
+
+-- a record of a known kind stands whole at the front of r; its fields may be out of their ranges
+pub record Held (r : List ℕ) : Type 0 where
+  pub known : mapping-kind (kind-of r) ≡ true
+  pub fits : length-of (kind-of r) ≤ length r
 
 -- a whole, valid record starts at the front of r
 unfoldable pub starts-record : List ℕ → Bool

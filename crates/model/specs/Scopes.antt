@@ -2,7 +2,7 @@
 -- in the context just before it ("Whole runs"), and how the event changes the context.
 use Prim.Native.Nat.{ℕ}
 use mathlib.Core.Bool.{Bool, true, false, cond, not, _&&_, _||_}
-use lib.Dec.{eqb}
+use lib.Dec.{eqb, leb}
 use Rattle.model.specs.declared.Context.{Context}
 use Rattle.model.specs.declared.Place.{Place}
 use Rattle.model.specs.declared.Place.the-variants.{Outside, Root, Guest}
@@ -40,72 +40,142 @@ current-pcid-or-global c m = eqb (m .pcid) (c .pcid) || global-translation m
 abbrev pub vpid-named : Operands → ℕ
 vpid-named o = bits 15 0 (o .low)
 
--- "INVVPID touches kinds 1, 3, 4, 6 only, for all PCIDs and EP4TAs." Type 0 takes the named VPID
--- covering the address, global or not; 1 the named VPID; 2 every VPID but 0; 3 the named VPID except
--- global translations; any other type is refused with 8, so its scope is never asked.
-unfoldable pub invvpid-scope : Operands → Mapping → Bool
-invvpid-scope o m =
-    vpid-tagged m
-    && cond (eqb (o .«type_number») 0) (eqb (m .vpid) (vpid-named o) && covers (m .span) (m .page) (page-of (o .high)))
-    (cond (eqb (o .«type_number») 1) (eqb (m .vpid) (vpid-named o))
-    (cond (eqb (o .«type_number») 2) (not (eqb (m .vpid) 0))
-    (eqb (m .vpid) (vpid-named o) && not (global-translation m))))
+-- The tests that an event puts to a mapping, in the order of document 02's reasons (Ask 1). Each is true
+-- where the mapping passes it, and where the event does not put it.
+pub record Tests : Type 0 where
+  pub kind : Bool
+  pub vpid : Bool
+  pub pcid : Bool
+  pub ep4ta : Bool
+  pub page : Bool
+  pub global : Bool
+
+-- the mapping passes every test
+abbrev pub passed : Tests → Bool
+passed t = t .kind && t .vpid && t .pcid && t .ep4ta && t .page && t .global
+
+-- no test is put
+abbrev pub no-tests : Tests
+no-tests = record { kind = true; vpid = true; pcid = true; ep4ta = true; page = true; global = true }
+
+-- "INVVPID touches kinds 1, 3, 4, 6 only, for all PCIDs and EP4TAs. Type 0: the named VPID, covering the
+-- address, global or not. Type 1: the named VPID. Type 2: every VPID but 0. Type 3: the named VPID,
+-- except kinds 1 and 3 with global 1". A type above 3 is refused with 8, so that its tests are never
+-- asked.
+unfoldable pub invvpid-tests : Operands → Mapping → Tests
+invvpid-tests o m =
+    record {
+      kind = vpid-tagged m;
+      vpid = cond (eqb (o .«type_number») 2) (not (eqb (m .vpid) 0)) (eqb (m .vpid) (vpid-named o));
+      pcid = true;
+      ep4ta = true;
+      page = cond (eqb (o .«type_number») 0) (covers (m .span) (m .page) (page-of (o .high))) true;
+      global = cond (leb (o .«type_number») 2) true (not (global-translation m));
+    }
 
 -- "INVEPT touches kinds 2, 3, 5, 6 only. Type 1: those whose EP4TA is EPTP bits 51 to 12. Type 2: all
 -- of them." Any other type is refused with 8.
-unfoldable pub invept-scope : Operands → Mapping → Bool
-invept-scope o m =
-    (guest-physical (m .kind) || combined (m .kind))
-    && cond (eqb (o .«type_number») 1) (eqb (m .ep4ta) (ep4ta-of (o .low))) true
+unfoldable pub invept-tests : Operands → Mapping → Tests
+invept-tests o m =
+    record {
+      kind = guest-physical (m .kind) || combined (m .kind);
+      vpid = true;
+      pcid = true;
+      ep4ta = cond (eqb (o .«type_number») 1) (eqb (m .ep4ta) (ep4ta-of (o .low))) true;
+      page = true;
+      global = true;
+    }
 
--- "INVLPG, canonical address": kinds 1 and 3 of the current VPID covering the page, with the current
--- PCID or global 1; kinds 4 and 6 of the current VPID and PCID. Document 02, Ask 2, takes the cover test
--- from kinds 4 and 6 (Volume 3A, 4.10.4). Any EP4TA.
-unfoldable pub invlpg-scope : Context → ℕ → Mapping → Bool
-invlpg-scope c address m =
-    canonical address
-    && vpid-tagged m
-    && eqb (m .vpid) (current-vpid (c .place))
-    && (structure-cache (m .kind) || covers (m .span) (m .page) (page-of address))
-    && current-pcid-or-global c m
+-- "INVLPG, canonical address: kinds 1 and 3 of the current VPID covering the page, with the current PCID
+-- or global 1; kinds 4 and 6 of the current VPID and PCID. .. Any EP4TA." Document 02, Ask 2, takes
+-- the cover test from kinds 4 and 6 (Volume 3A, 4.10.4).
+unfoldable pub invlpg-tests : Context → ℕ → Mapping → Tests
+invlpg-tests c address m =
+    record {
+      kind = vpid-tagged m;
+      vpid = eqb (m .vpid) (current-vpid (c .place));
+      pcid = current-pcid-or-global c m;
+      ep4ta = true;
+      page = structure-cache (m .kind) || covers (m .span) (m .page) (page-of address);
+      global = true;
+    }
 
 -- "EPT violation: kinds 2 and 5 of the current EP4TA covering the guest-physical page."
-unfoldable pub guest-physical-violation-scope : Context → Violation → Mapping → Bool
-guest-physical-violation-scope c v m =
-    guest-physical (m .kind)
-    && is-current-ep4ta (current-ept (c .place)) (m .ep4ta)
-    && covers (m .span) (m .page) (page-of (v .physical))
+unfoldable pub guest-physical-violation-tests : Context → Violation → Mapping → Tests
+guest-physical-violation-tests c v m =
+    record {
+      kind = guest-physical (m .kind);
+      vpid = true;
+      pcid = true;
+      ep4ta = is-current-ep4ta (current-ept (c .place)) (m .ep4ta);
+      page = covers (m .span) (m .page) (page-of (v .physical));
+      global = true;
+    }
 
 -- "With linear flag 1 also kinds 3 and 6 of the current VPID, PCID and EP4TA covering the linear
 -- page."
-unfoldable pub combined-violation-scope : Context → Violation → Mapping → Bool
-combined-violation-scope c v m =
-    eqb (v .flag) 1
-    && combined (m .kind)
-    && eqb (m .vpid) (current-vpid (c .place))
-    && eqb (m .pcid) (c .pcid)
-    && is-current-ep4ta (current-ept (c .place)) (m .ep4ta)
-    && covers (m .span) (m .page) (page-of (v .linear))
+unfoldable pub combined-violation-tests : Context → Violation → Mapping → Tests
+combined-violation-tests c v m =
+    record {
+      kind = eqb (v .flag) 1 && combined (m .kind);
+      vpid = eqb (m .vpid) (current-vpid (c .place));
+      pcid = eqb (m .pcid) (c .pcid);
+      ep4ta = is-current-ep4ta (current-ept (c .place)) (m .ep4ta);
+      page = covers (m .span) (m .page) (page-of (v .linear));
+      global = true;
+    }
 
--- "kinds 1, 3, 4, 6 of VPID 0", for a VM entry or VM exit
-unfoldable pub transition-scope : Mapping → Bool
-transition-scope m = vpid-tagged m && eqb (m .vpid) 0
+-- the two sentences: the first speaks of guest-physical mappings, the second of all others
+unfoldable pub violation-tests : Context → Violation → Mapping → Tests
+violation-tests c v m =
+    cond (guest-physical (m .kind)) (guest-physical-violation-tests c v m) (combined-violation-tests c v m)
 
--- The required scope of each event. "VM entry, VM exit: if VPIDs are not enabled for that guest": an
--- entry asks the event's flag; an exit asks the context, whose VPID is 0 exactly if VPIDs were not
--- enabled at entry.
+-- "VM entry, VM exit: if VPIDs are not enabled for that guest, kinds 1, 3, 4, 6 of VPID 0."
+unfoldable pub transition-tests : Mapping → Tests
+transition-tests m =
+    record { kind = vpid-tagged m; vpid = eqb (m .vpid) 0; pcid = true; ep4ta = true; page = true; global = true }
+
+-- What an event asks: whether it has a scope, whether its address is canonical, which INVLPG alone asks,
+-- and the tests that it then puts to a mapping.
+pub record Asked : Type 0 where
+  pub scoped : Bool
+  pub addressed : Bool
+  pub tests : Mapping → Tests
+
+-- a scope where a test of the event holds
+abbrev pub asked-if : Bool → (Mapping → Tests) → Asked
+asked-if test tests = record { scoped = test; addressed = true; tests = tests }
+
+-- "Reset: everything. Kinds 22 to 24 and creations: nothing"
+abbrev pub everything : Asked
+everything = asked-if true (λ m. no-tests)
+
+abbrev pub nothing : Asked
+nothing = asked-if false (λ m. no-tests)
+
+-- Each event in its turn. An entry asks the event's own flag whether VPIDs are enabled for that guest; an
+-- exit asks the context, whose VPID is 0 exactly if they were not enabled at entry. "A non-canonical
+-- address has nothing in scope".
+abbrev pub asked : Context → Event → Asked
+asked c (Creation created) = nothing
+asked c (Invvpid o) = asked-if true (invvpid-tests o)
+asked c (Invept o) = asked-if true (invept-tests o)
+asked c (Invlpg address) = record { scoped = true; addressed = canonical address; tests = invlpg-tests c address }
+asked c (EptViolation v) = asked-if true (violation-tests c v)
+asked c (Entry n) = asked-if (not (eqb (n .vpids) 1)) transition-tests
+asked c (Exit pcid) = asked-if (eqb (current-vpid (c .place)) 0) transition-tests
+asked c Vmxon = nothing
+asked c Vmxoff = nothing
+asked c (NewPcid n) = nothing
+asked c Reset = everything
+
+-- some mapping may be in scope: the event has a scope, and its address is canonical
+unfoldable pub has-scope : Context → Event → Bool
+has-scope c e = asked c e .scoped && asked c e .addressed
+
+-- The required scope of an event: the mappings that pass its tests.
 unfoldable pub scope : Context → Event → Mapping → Bool
-scope c (Creation created) m = false
-scope c (Invvpid o) m = invvpid-scope o m
-scope c (Invept o) m = invept-scope o m
-scope c (Invlpg address) m = invlpg-scope c address m
-scope c (EptViolation v) m = guest-physical-violation-scope c v m || combined-violation-scope c v m
-scope c (Entry n) m = not (eqb (n .vpids) 1) && transition-scope m
-scope c (Exit pcid) m = eqb (current-vpid (c .place)) 0 && transition-scope m
-scope c Vmxon m = false
-scope c Vmxoff m = false
-scope c (NewPcid n) m = false
-scope c Reset m = true
+scope c e m = has-scope c e && passed (asked c e .tests m)
 
 -- "a disabled VPID or EPT field is not looked at"
 unfoldable pub entered : Entry.Entry → Place

@@ -4,9 +4,10 @@ use Prim.Native.Nat.{ℕ}
 use mathlib.Core.Bool.{Bool, cond, not}
 use mathlib.Core.List.{List, _++_}
 use lib.Dec.{eqb}
-use lib.ListN.{length, drop}
+use lib.ListN.{length}
 use Rattle.model.specs.declared.Context.{Context}
 use Rattle.model.specs.declared.Step.{Step}
+use Rattle.model.specs.Buffers.{put}
 use Rattle.model.specs.Mappings.{mapping}
 use Rattle.model.specs.Tables.{records, joined, only, count}
 use Rattle.model.specs.Events.{event}
@@ -25,22 +26,24 @@ new-table c t e = joined (only (λ r. not (in-scope c e r)) (records t)) ++ crea
 unfoldable pub dropped-count : Context → List ℕ → List ℕ → ℕ
 dropped-count c t e = count (λ r. in-scope c e r) (records t)
 
--- "A refusal ... hands back the same context and reports 0 and 0."
-unfoldable pub stepped : Context → List ℕ → List ℕ → ℕ → Step
-stepped c t e room =
-    cond (eqb (answer c t e room) 0)
-    (record {
+-- what the step of an accepted event hands back
+unfoldable pub accepted-step : Context → List ℕ → List ℕ → Step
+accepted-step c t e =
+    record {
       answer = 0;
       context = next-context c (event e);
       length = length (new-table c t e);
       dropped = dropped-count c t e;
-    })
-    (record { answer = answer c t e room; context = c; length = 0; dropped = 0 })
+    }
 
--- a buffer with bytes put at its front: "Bytes past that length stay."
-unfoldable pub overwritten : List ℕ → List ℕ → List ℕ
-overwritten bytes buffer = bytes ++ drop (length bytes) buffer
+-- "A refusal ... hands back the same context and reports 0 and 0."
+unfoldable pub refused-step : ℕ → Context → Step
+refused-step answer c = record { answer = answer; context = c; length = 0; dropped = 0 }
+
+unfoldable pub stepped : Context → List ℕ → List ℕ → ℕ → Step
+stepped c t e room =
+    cond (eqb (answer c t e room) 0) (accepted-step c t e) (refused-step (answer c t e room) c)
 
 -- the new buffer after a step: "A refusal writes nothing."
 unfoldable pub written : Context → List ℕ → List ℕ → List ℕ → List ℕ
-written c t e buffer = cond (eqb (answer c t e (length buffer)) 0) (overwritten (new-table c t e) buffer) buffer
+written c t e buffer = cond (eqb (answer c t e (length buffer)) 0) (put 0 (new-table c t e) buffer) buffer

@@ -113,6 +113,27 @@ pub enum EventReading {
     Invalid,
 }
 
+// Document 02, Ask 1: what an accepted event says of a mapping, in the order in which it is asked. The
+// mapping is dropped with the last alone.
+pub enum Reason {
+    NoScope,
+    NotCanonical,
+    WrongKind,
+    WrongVpid,
+    WrongPcid,
+    WrongEp4ta,
+    NotCovering,
+    SparedAsGlobal,
+    InScope,
+}
+
+// Why an event drops a mapping or leaves it: the step is refused with its answer, or it is accepted and
+// the reason decides.
+pub enum Explanation {
+    Refused(u64),
+    Accepted(Reason),
+}
+
 // What a lookup asks for.
 pub enum Address {
     Linear(u64),

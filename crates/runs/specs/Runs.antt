@@ -6,12 +6,13 @@ use mathlib.Core.List.{List, [], _∷_, map}
 use mathlib.Core.Path.{_≡_}
 use lib.Dec.{eqb}
 use lib.ListN.{length, take}
+use Rattle.model.specs.Buffers.{put}
 use Rattle.model.specs.declared.Context.{Context}
 use Rattle.model.specs.declared.Address.{Address}
 use Rattle.model.specs.Context.{after-reset}
 use Rattle.model.specs.Layouts.{kind-of, mapping-kind}
 use Rattle.model.specs.Tables.{limit, joined, records}
-use Rattle.model.specs.Steps.{stepped, overwritten, written}
+use Rattle.model.specs.Steps.{stepped, written}
 use Rattle.model.specs.Lookups.{usable-records}
 use Rattle.runs.specs.Book.{Report, opened, book-table, book-reports, book-of}
 
@@ -83,7 +84,7 @@ run-without gone s =
     record {
       context = s .context;
       table = joined (without gone (records (s .table)));
-      front = overwritten (joined (without gone (records (s .table)))) (s .front);
+      front = put 0 (joined (without gone (records (s .table)))) (s .front);
       back = s .back;
     }
 

@@ -1,173 +1,175 @@
-// The required scope of each event. A record is handed in as the part of the table that starts at its
-// kind byte, and only the fields that an event asks for are read.
+// The required scope of each event, and why a record is out of it. The tests of an event are put in the
+// order of the reasons. A record is handed in as the part of the table that starts at its kind byte, and
+// only the fields that an event asks for are read.
 use model::Context;
 use model::Event;
 use model::Operands;
+use model::Reason;
 use model::Violation;
+ghost use mathlib.Core.Bool.{true};
 ghost use mathlib.Core.Path.{_≡_};
-ghost use Rattle.model.specs.Mappings.{mapping};
-ghost use Rattle.model.specs.Scopes.{vpid-tagged, invvpid-scope, invept-scope, invlpg-scope, guest-physical-violation-scope, combined-violation-scope, transition-scope, scope};
-ghost use Rattle.laws.specs.Mappings.{Held};
-ghost use Rattle.scopes.specs.NoScope.{without-scope};
+ghost use Rattle.model.specs.Mappings.{mapping, Held};
+ghost use Rattle.model.specs.Scopes.{vpid-tagged, invvpid-tests, invept-tests, invlpg-tests, guest-physical-violation-tests, combined-violation-tests, transition-tests, asked, has-scope, scope};
+ghost use Rattle.model.specs.Reasons.{unless, first-failed, drops, reason};
 
-// The record is a linear or combined mapping, kinds 1, 3, 4 and 6, which carry a VPID and a PCID.
+// The record is a linear or combined mapping, which carry a VPID and a PCID.
 fn is_tagged(part: &[u8]) -> bool
     requires { ⌜ Held (now part) ⌝ }
     ensures { λ r. ⌜ r ≡ vpid-tagged (mapping (now (part .entry))) ⌝ }
 {
     let kind = mappings::kind(part);
-    ((kind == 1) | (kind == 4)) | ((kind == 3) | (kind == 6))
+    kinds::is_linear(kind) | kinds::is_combined(kind)
 }
 
-// The record lies in the scope of an INVVPID.
-fn is_in_invvpid_scope(o: Operands, part: &[u8]) -> bool
+// In scope if the last test is passed, else out of it for a reason.
+fn last_test(passed: bool, failed: Reason) -> Reason
+    ensures { λ r. ⌜ r ≡ unless passed failed Reason.InScope ⌝ }
+{
+    if passed { Reason::InScope } else { failed }
+}
+
+// What an INVVPID says of a record.
+fn invvpid_reason(o: Operands, part: &[u8]) -> Reason
     requires { ⌜ Held (now part) ⌝ }
-    ensures { λ r. ⌜ r ≡ invvpid-scope o (mapping (now (part .entry))) ⌝ }
+    ensures { λ r. ⌜ r ≡ first-failed (invvpid-tests o (mapping (now (part .entry)))) ⌝ }
 {
     if !is_tagged(part) {
-        return false;
+        return Reason::WrongKind;
     }
-    let vpid = mappings::vpid(part);
-    let named = o.low % 65536;
     let type_number = o.type_number;
-    match type_number {
-        0 => {
-            if vpid == named {
-                mappings::is_covering(part, addresses::page(o.high))
-            } else {
-                false
-            }
-        }
-        1 => vpid == named,
-        2 => !(vpid == 0),
-        _ => (vpid == named) & !mappings::is_global_translation(part),
+    let vpid = mappings::vpid(part);
+    if type_number == 2 {
+        return last_test(vpid != 0, Reason::WrongVpid);
     }
+    if vpid != o.low % 65536 {
+        return Reason::WrongVpid;
+    }
+    if type_number == 0 {
+        return last_test(
+            mappings::is_covering(part, addresses::page(o.high)),
+            Reason::NotCovering,
+        );
+    }
+    if type_number <= 2 {
+        return Reason::InScope;
+    }
+    last_test(
+        !mappings::is_global_translation(part),
+        Reason::SparedAsGlobal,
+    )
 }
 
-// The record lies in the scope of an INVEPT.
-fn is_in_invept_scope(o: Operands, part: &[u8]) -> bool
+// What an INVEPT says of a record.
+fn invept_reason(o: Operands, part: &[u8]) -> Reason
     requires { ⌜ Held (now part) ⌝ }
-    ensures { λ r. ⌜ r ≡ invept-scope o (mapping (now (part .entry))) ⌝ }
+    ensures { λ r. ⌜ r ≡ first-failed (invept-tests o (mapping (now (part .entry)))) ⌝ }
 {
     let kind = mappings::kind(part);
-    if !(((kind == 2) | (kind == 5)) | ((kind == 3) | (kind == 6))) {
-        return false;
+    if !(kinds::is_guest_physical(kind) | kinds::is_combined(kind)) {
+        return Reason::WrongKind;
     }
     if o.type_number == 1 {
-        mappings::ep4ta(part) == addresses::ep4ta(o.low)
-    } else {
-        true
+        return last_test(
+            mappings::ep4ta(part) == addresses::ep4ta(o.low),
+            Reason::WrongEp4ta,
+        );
     }
+    Reason::InScope
 }
 
-// The record lies in the scope of an INVLPG.
-fn is_in_invlpg_scope(c: Context, address: u64, part: &[u8]) -> bool
+// What an INVLPG at a canonical address says of a record.
+fn invlpg_reason(c: Context, address: u64, part: &[u8]) -> Reason
     requires { ⌜ Held (now part) ⌝ }
-    ensures { λ r. ⌜ r ≡ invlpg-scope c address (mapping (now (part .entry))) ⌝ }
+    ensures { λ r. ⌜ r ≡ first-failed (invlpg-tests c address (mapping (now (part .entry)))) ⌝ }
 {
-    if !addresses::is_canonical(address) {
-        return false;
-    }
     if !is_tagged(part) {
-        return false;
+        return Reason::WrongKind;
     }
     let place = c.place;
-    let pcid = c.pcid;
-    if !(mappings::vpid(part) == contexts::vpid(place)) {
-        return false;
+    if mappings::vpid(part) != contexts::vpid(place) {
+        return Reason::WrongVpid;
     }
-    if !((4 <= mappings::kind(part)) | mappings::is_covering(part, addresses::page(address))) {
-        return false;
+    if !((mappings::pcid(part) == c.pcid) | mappings::is_global_translation(part)) {
+        return Reason::WrongPcid;
     }
-    (mappings::pcid(part) == pcid) | mappings::is_global_translation(part)
+    if kinds::is_structure_cache(mappings::kind(part)) {
+        return Reason::InScope;
+    }
+    last_test(
+        mappings::is_covering(part, addresses::page(address)),
+        Reason::NotCovering,
+    )
 }
 
-// The record is a guest-physical mapping in the scope of an EPT violation.
-fn is_in_guest_physical_violation_scope(c: Context, v: Violation, part: &[u8]) -> bool
+// What an EPT violation says of a guest-physical mapping.
+fn guest_physical_violation_reason(c: Context, v: Violation, part: &[u8]) -> Reason
     requires { ⌜ Held (now part) ⌝ }
-    ensures { λ r. ⌜ r ≡ guest-physical-violation-scope c v (mapping (now (part .entry))) ⌝ }
+    ensures { λ r. ⌜ r ≡ first-failed (guest-physical-violation-tests c v (mapping (now (part .entry)))) ⌝ }
 {
-    let kind = mappings::kind(part);
-    if !((kind == 2) | (kind == 5)) {
-        return false;
+    if !kinds::is_guest_physical(mappings::kind(part)) {
+        return Reason::WrongKind;
     }
     let place = c.place;
     let ept = contexts::ept(place);
     if !contexts::is_current_ep4ta(ept, mappings::ep4ta(part)) {
-        return false;
+        return Reason::WrongEp4ta;
     }
-    mappings::is_covering(part, addresses::page(v.physical))
+    last_test(
+        mappings::is_covering(part, addresses::page(v.physical)),
+        Reason::NotCovering,
+    )
 }
 
-// The record is a combined mapping in the scope of an EPT violation.
-fn is_in_combined_violation_scope(c: Context, v: Violation, part: &[u8]) -> bool
+// What an EPT violation says of any other mapping.
+fn combined_violation_reason(c: Context, v: Violation, part: &[u8]) -> Reason
     requires { ⌜ Held (now part) ⌝ }
-    ensures { λ r. ⌜ r ≡ combined-violation-scope c v (mapping (now (part .entry))) ⌝ }
+    ensures { λ r. ⌜ r ≡ first-failed (combined-violation-tests c v (mapping (now (part .entry)))) ⌝ }
 {
-    if v.flag != 1 {
-        return false;
-    }
-    let kind = mappings::kind(part);
-    if !((kind == 3) | (kind == 6)) {
-        return false;
+    if !((v.flag == 1) & kinds::is_combined(mappings::kind(part))) {
+        return Reason::WrongKind;
     }
     let place = c.place;
-    let pcid = c.pcid;
     let ept = contexts::ept(place);
-    if !(mappings::vpid(part) == contexts::vpid(place)) {
-        return false;
+    if mappings::vpid(part) != contexts::vpid(place) {
+        return Reason::WrongVpid;
     }
-    if !(mappings::pcid(part) == pcid) {
-        return false;
+    if mappings::pcid(part) != c.pcid {
+        return Reason::WrongPcid;
     }
     if !contexts::is_current_ep4ta(ept, mappings::ep4ta(part)) {
-        return false;
+        return Reason::WrongEp4ta;
     }
-    mappings::is_covering(part, addresses::page(v.linear))
+    last_test(
+        mappings::is_covering(part, addresses::page(v.linear)),
+        Reason::NotCovering,
+    )
 }
 
-// The record lies in the scope of a VM entry or VM exit without VPIDs.
-fn is_in_transition_scope(part: &[u8]) -> bool
+// What a VM entry or VM exit without VPIDs says of a record.
+fn transition_reason(part: &[u8]) -> Reason
     requires { ⌜ Held (now part) ⌝ }
-    ensures { λ r. ⌜ r ≡ transition-scope (mapping (now (part .entry))) ⌝ }
+    ensures { λ r. ⌜ r ≡ first-failed (transition-tests (mapping (now (part .entry)))) ⌝ }
 {
     if !is_tagged(part) {
-        return false;
+        return Reason::WrongKind;
     }
-    mappings::vpid(part) == 0
+    last_test(mappings::vpid(part) == 0, Reason::WrongVpid)
 }
 
-// The record lies in the required scope of the event, judged in the context.
-pub fn is_in_scope(c: Context, e: Event, part: &[u8]) -> bool
-    requires { ⌜ Held (now part) ⌝ }
-    ensures { λ r. ⌜ r ≡ scope c e (mapping (now (part .entry))) ⌝ }
+// The event has a scope.
+fn is_scoped(c: Context, e: Event) -> bool
+    ensures { λ r. ⌜ r ≡ asked c e .scoped ⌝ }
 {
     match e {
         Event::Creation(_) => false,
-        Event::Invvpid(o) => is_in_invvpid_scope(o, part),
-        Event::Invept(o) => is_in_invept_scope(o, part),
-        Event::Invlpg(address) => is_in_invlpg_scope(c, address, part),
-        Event::EptViolation(v) => {
-            if is_in_guest_physical_violation_scope(c, v, part) {
-                true
-            } else {
-                is_in_combined_violation_scope(c, v, part)
-            }
-        }
-        Event::Entry(n) => {
-            if n.vpids == 1 {
-                false
-            } else {
-                is_in_transition_scope(part)
-            }
-        }
+        Event::Invvpid(_) => true,
+        Event::Invept(_) => true,
+        Event::Invlpg(_) => true,
+        Event::EptViolation(_) => true,
+        Event::Entry(n) => n.vpids != 1,
         Event::Exit(_) => {
             let left = c.place;
-            if contexts::vpid(left) == 0 {
-                is_in_transition_scope(part)
-            } else {
-                false
-            }
+            contexts::vpid(left) == 0
         }
         Event::Vmxon => false,
         Event::Vmxoff => false,
@@ -176,24 +178,114 @@ pub fn is_in_scope(c: Context, e: Event, part: &[u8]) -> bool
     }
 }
 
-// No record of any table lies in the required scope of the event.
-pub fn is_without_scope(c: Context, e: Event) -> bool
-    ensures { λ r. ⌜ r ≡ without-scope c e ⌝ }
+// Its address is canonical, which INVLPG alone asks.
+fn is_addressed(c: Context, e: Event) -> bool
+    ensures { λ r. ⌜ r ≡ asked c e .addressed ⌝ }
 {
     match e {
-        Event::Invlpg(address) => !addresses::is_canonical(address),
-        Event::Entry(n) => n.vpids == 1,
-        Event::Exit(_) => {
-            let guest = c.place;
-            !(contexts::vpid(guest) == 0)
-        }
         Event::Creation(_) => true,
+        Event::Invvpid(_) => true,
+        Event::Invept(_) => true,
+        Event::Invlpg(address) => addresses::is_canonical(address),
+        Event::EptViolation(_) => true,
+        Event::Entry(_) => true,
+        Event::Exit(_) => true,
         Event::Vmxon => true,
         Event::Vmxoff => true,
         Event::NewPcid(_) => true,
-        Event::Invvpid(_) => false,
-        Event::Invept(_) => false,
-        Event::EptViolation(_) => false,
-        Event::Reset => false,
+        Event::Reset => true,
+    }
+}
+
+// Some record may be in the required scope of the event, judged in the context. Where none may, no table
+// loses a record.
+pub fn has_scope(c: Context, e: Event) -> bool
+    ensures { λ r. ⌜ r ≡ has-scope c e ⌝ }
+{
+    is_scoped(c, e) & is_addressed(c, e)
+}
+
+// The first test of the event that the record fails, judged in the context. The same match stands in
+// is_in_scope: were this called there, it would not be compiled into the pass over a table.
+fn first_failed(c: Context, e: Event, part: &[u8]) -> Reason
+    requires { ⌜ Held (now part) ⌝ }
+    ensures { λ r. ⌜ r ≡ first-failed (asked c e .tests (mapping (now (part .entry)))) ⌝ }
+{
+    match e {
+        Event::Creation(_) => Reason::InScope,
+        Event::Invvpid(o) => invvpid_reason(o, part),
+        Event::Invept(o) => invept_reason(o, part),
+        Event::Invlpg(address) => invlpg_reason(c, address, part),
+        Event::EptViolation(v) => {
+            if kinds::is_guest_physical(mappings::kind(part)) {
+                guest_physical_violation_reason(c, v, part)
+            } else {
+                combined_violation_reason(c, v, part)
+            }
+        }
+        Event::Entry(_) => transition_reason(part),
+        Event::Exit(_) => transition_reason(part),
+        Event::Vmxon => Reason::InScope,
+        Event::Vmxoff => Reason::InScope,
+        Event::NewPcid(_) => Reason::InScope,
+        Event::Reset => Reason::InScope,
+    }
+}
+
+// Why the record is in the required scope of the event or out of it, judged in the context.
+pub fn reason(c: Context, e: Event, part: &[u8]) -> Reason
+    requires { ⌜ Held (now part) ⌝ }
+    ensures { λ r. ⌜ r ≡ reason c e (mapping (now (part .entry))) ⌝ }
+{
+    if !is_scoped(c, e) {
+        return Reason::NoScope;
+    }
+    if !is_addressed(c, e) {
+        return Reason::NotCanonical;
+    }
+    first_failed(c, e, part)
+}
+
+// The reason is that the record is in scope, which alone drops it.
+fn is_dropping(r: Reason) -> bool
+    ensures { λ b. ⌜ b ≡ drops r ⌝ }
+{
+    match r {
+        Reason::NoScope => false,
+        Reason::NotCanonical => false,
+        Reason::WrongKind => false,
+        Reason::WrongVpid => false,
+        Reason::WrongPcid => false,
+        Reason::WrongEp4ta => false,
+        Reason::NotCovering => false,
+        Reason::SparedAsGlobal => false,
+        Reason::InScope => true,
+    }
+}
+
+// The record lies in the required scope of an event that has one, judged in the context.
+pub fn is_in_scope(c: Context, e: Event, part: &[u8]) -> bool
+    requires { ⌜ Held (now part) ⌝ }
+    requires { ⌜ has-scope c e ≡ true ⌝ }
+    ensures { λ r. ⌜ r ≡ scope c e (mapping (now (part .entry))) ⌝ }
+{
+    match e {
+        Event::Creation(_) => false,
+        Event::Invvpid(o) => is_dropping(invvpid_reason(o, part)),
+        Event::Invept(o) => is_dropping(invept_reason(o, part)),
+        Event::Invlpg(address) => is_dropping(invlpg_reason(c, address, part)),
+        Event::EptViolation(v) => {
+            if kinds::is_guest_physical(mappings::kind(part)) {
+                is_dropping(guest_physical_violation_reason(c, v, part))
+            } else {
+                is_dropping(combined_violation_reason(c, v, part))
+            }
+        }
+        Event::Entry(_) => is_dropping(transition_reason(part)),
+        Event::Exit(_) => is_dropping(transition_reason(part)),
+        Event::Vmxon => false,
+        Event::Vmxoff => false,
+        Event::NewPcid(_) => false,
+        Event::Reset => true,
     }
 }

@@ -1,72 +1,26 @@
--- Contexts and results as flat structs of numbers, for callers in other languages.
+-- Results as flat structs of numbers, for callers in other languages.
 use Prim.Native.Nat.{ℕ, _≤_}
-use mathlib.Core.Bool.{Bool, cond, _&&_, _||_}
+use mathlib.Core.Bool.{cond}
 use mathlib.Core.List.{List}
 use mathlib.Core.Path.{_≡_}
-use lib.Dec.{eqb, leb}
+use lib.Dec.{eqb}
 use lib.ListN.{length}
 use Rattle.model.specs.declared.Context.{Context}
-use Rattle.model.specs.declared.Place.{Place}
-use Rattle.model.specs.declared.Place.the-variants.{Outside, Root, Guest}
-use Rattle.model.specs.declared.Ept.{Ept}
-use Rattle.model.specs.declared.Ept.the-variants.{Off, On}
+use Rattle.model.specs.declared.Place.the-variants.{Outside}
 use Rattle.model.specs.declared.Step.{Step}
 use Rattle.model.specs.declared.Address.{Address}
 use Rattle.model.specs.Steps.{stepped, written}
 use Rattle.model.specs.Lookups.{lookup-answer, lookup, lookup-start}
-use Rattle.skuldrefn.specs.declared.FlatContext.{FlatContext}
+use Rattle.model.specs.Reasons.{explanation, explanation-number, explanation-answer}
+use Rattle.flat_contexts.specs.declared.FlatContext.{FlatContext}
+use Rattle.flat_contexts.specs.Contexts.{is-known, unflatten, flatten}
 use Rattle.skuldrefn.specs.declared.FlatStep.{FlatStep}
 use Rattle.skuldrefn.specs.declared.FlatPart.{FlatPart}
 use Rattle.skuldrefn.specs.declared.FlatReason.{FlatReason}
 use Rattle.skuldrefn.specs.declared.FlatReplayed.{FlatReplayed}
 use Rattle.model.specs.Tables.{limit}
-use Rattle.reasons.specs.Reasons.{explanation, reason-number, reason-answer}
-use Rattle.replays.specs.declared.Replayed.{Replayed}
-use Rattle.replays.specs.Replays.{Replays, ByTheBook}
-
--- the place is 0, 1 or 2, and in a guest the EPT number 0 or 1
-unfoldable pub is-known : FlatContext → Bool
-is-known c = leb (c .place) 1 || (eqb (c .place) 2 && leb (c .ept) 1)
-
--- the context that such numbers stand for
-unfoldable pub unflatten : FlatContext → Context
-unflatten c =
-    record {
-      capability = c .capability;
-      width = c .width;
-      pcid = c .pcid;
-      cpl = c .cpl;
-      place =
-          cond (eqb (c .place) 0) Outside
-          (cond (eqb (c .place) 1) Root
-          (Guest (record { vpid = c .vpid; ept = cond (eqb (c .ept) 1) (On (c .ep4ta)) Off })));
-    }
-
--- a context as numbers; a field that the place lacks is 0
-abbrev pub with-place : Context → ℕ → ℕ → ℕ → ℕ → FlatContext
-with-place c place vpid ept ep4ta =
-    record {
-      capability = c .capability;
-      width = c .width;
-      pcid = c .pcid;
-      cpl = c .cpl;
-      place = place;
-      vpid = vpid;
-      ept = ept;
-      ep4ta = ep4ta;
-    }
-
-abbrev pub flatten-guest : Context → ℕ → Ept → FlatContext
-flatten-guest c vpid Off = with-place c 2 vpid 0 0
-flatten-guest c vpid (On ep4ta) = with-place c 2 vpid 1 ep4ta
-
-abbrev pub flatten-at : Context → Place → FlatContext
-flatten-at c Outside = with-place c 0 0 0 0
-flatten-at c Root = with-place c 1 0 0 0
-flatten-at c (Guest g) = flatten-guest c (g .vpid) (g .ept)
-
-unfoldable pub flatten : Context → FlatContext
-flatten c = flatten-at c (c .place)
+use Rattle.logs.specs.declared.Replayed.{Replayed}
+use Rattle.logs.specs.Replays.{Replays, ByTheBook}
 
 -- a refusal hands back the context as it came
 abbrev pub refused : ℕ → FlatContext → FlatStep
@@ -101,7 +55,7 @@ flat-lookup c a t k =
 unfoldable pub flat-explanation : FlatContext → List ℕ → List ℕ → FlatReason
 flat-explanation c r e =
     cond (is-known c)
-    (record { reason = reason-number (explanation (unflatten c) r e); answer = reason-answer (explanation (unflatten c) r e) })
+    (record { reason = explanation-number (explanation (unflatten c) r e); answer = explanation-answer (explanation (unflatten c) r e) })
     (record { reason = 1; answer = 1 })
 
 -- the context of a capability and N after a reset

@@ -1,28 +1,14 @@
 // The model for programs in C and Rust: functions on numbers, byte slices and flat structs. A context
 // is handed in as numbers; a place or EPT number that stands for nothing is answered 1.
+use flat_contexts::FlatContext;
 use model::Address;
 use model::Context;
-use model::Ept;
-use model::GuestPlace;
 use model::Place;
 ghost use mathlib.Core.Path.{_≡_};
 ghost use lib.ListN.{length};
-ghost use Rattle.skuldrefn.specs.Flat.{is-known, unflatten, flatten, flat-step, flat-written, flat-lookup, flat-explanation, fresh, FlatReplays};
+ghost use Rattle.logs.specs.Logs.{told-length};
+ghost use Rattle.skuldrefn.specs.Flat.{flat-step, flat-written, flat-lookup, flat-explanation, fresh, FlatReplays};
 ghost use mathlib.Core.Bool.{cond};
-
-// A context as numbers. place: 0 outside, 1 root, 2 guest; vpid, ept and ep4ta are looked at in a guest
-// only, and ep4ta with ept 1 only. ept: 0 off, 1 on.
-#[repr(C)]
-pub struct FlatContext {
-    pub capability: u64,
-    pub width: u64,
-    pub pcid: u64,
-    pub cpl: u64,
-    pub place: u64,
-    pub vpid: u64,
-    pub ept: u64,
-    pub ep4ta: u64,
-}
 
 // What a step reports.
 #[repr(C)]
@@ -31,84 +17,6 @@ pub struct FlatStep {
     pub context: FlatContext,
     pub length: usize,
     pub dropped: usize,
-}
-
-// The place and EPT numbers stand for something.
-fn is_known(c: FlatContext) -> bool
-    ensures { λ r. ⌜ r ≡ is-known c ⌝ }
-{
-    (c.place <= 1) | ((c.place == 2) & (c.ept <= 1))
-}
-
-// The place that the numbers stand for; those that stand for nothing are not asked.
-fn place_of(c: FlatContext) -> Place
-    ensures { λ r. ⌜ r ≡ unflatten c .place ⌝ }
-{
-    if c.place == 0 {
-        return Place::Outside;
-    }
-    if c.place == 1 {
-        return Place::Root;
-    }
-    if c.ept == 1 {
-        return Place::Guest(GuestPlace {
-            vpid: c.vpid,
-            ept: Ept::On(c.ep4ta),
-        });
-    }
-    Place::Guest(GuestPlace {
-        vpid: c.vpid,
-        ept: Ept::Off,
-    })
-}
-
-// The context that the numbers stand for. A place above 1 is read as a guest, an EPT number other than 1 as
-// off.
-pub fn context_of(c: FlatContext) -> Context
-    ensures { λ r. ⌜ r ≡ unflatten c ⌝ }
-{
-    let place = place_of(c);
-    Context {
-        capability: c.capability,
-        width: c.width,
-        pcid: c.pcid,
-        cpl: c.cpl,
-        place,
-    }
-}
-
-// A context with a place as numbers.
-fn with_place(c: Context, place: u64, vpid: u64, ept: u64, ep4ta: u64) -> FlatContext
-    ensures { λ r. ⌜ r ≡ record { capability = c .capability; width = c .width; pcid = c .pcid; cpl = c .cpl; place = place; vpid = vpid; ept = ept; ep4ta = ep4ta } ⌝ }
-{
-    FlatContext {
-        capability: c.capability,
-        width: c.width,
-        pcid: c.pcid,
-        cpl: c.cpl,
-        place,
-        vpid,
-        ept,
-        ep4ta,
-    }
-}
-
-// A context as numbers; a field that the place lacks is 0.
-fn flat_context(c: Context) -> FlatContext
-    ensures { λ r. ⌜ r ≡ flatten c ⌝ }
-{
-    let place = c.place;
-    match place {
-        Place::Outside => with_place(c, 0, 0, 0, 0),
-        Place::Root => with_place(c, 1, 0, 0, 0),
-        Place::Guest(guest) => {
-            let ept = guest.ept;
-            match ept {
-                Ept::Off => with_place(c, 2, guest.vpid, 0, 0),
-                Ept::On(ep4ta) => with_place(c, 2, guest.vpid, 1, ep4ta),
-            }
-        }
-    }
 }
 
 // One step: the answer, the context, the length of the new table and the dropped count. A refusal
@@ -123,7 +31,7 @@ pub extern "C" fn skuldrefn_step(
     ensures { λ r. ⌜ r ≡ flat-step context (now (table .entry)) (now (event .entry)) (length (now (new .entry))) ⌝ }
     ensures { λ _. ⌜ now (new .exit) ≡ flat-written context (now (table .entry)) (now (event .entry)) (now (new .entry)) ⌝ }
 {
-    if !is_known(context) {
+    if !flat_contexts::is_known(context) {
         return FlatStep {
             answer: 1,
             context,
@@ -131,10 +39,10 @@ pub extern "C" fn skuldrefn_step(
             dropped: 0,
         };
     }
-    let s = steps::step(context_of(context), table, event, new);
+    let s = steps::step(flat_contexts::context_of(context), table, event, new);
     if s.answer == 0 {
         let after = s.context;
-        let flat = flat_context(after);
+        let flat = flat_contexts::flat_context(after);
         return FlatStep {
             answer: 0,
             context: flat,
@@ -162,14 +70,14 @@ pub struct FlatPart {
 fn look_up(context: FlatContext, a: Address, table: &[u8], k: u64) -> FlatPart
     ensures { λ r. ⌜ r ≡ flat-lookup context a (now (table .entry)) k ⌝ }
 {
-    if !is_known(context) {
+    if !flat_contexts::is_known(context) {
         return FlatPart {
             answer: 1,
             start: 0,
             length: 0,
         };
     }
-    let found = lookups::find(context_of(context), a, table, k);
+    let found = lookups::find(flat_contexts::context_of(context), a, table, k);
     let length = found.end - found.start;
     FlatPart {
         answer: found.answer,
@@ -218,17 +126,26 @@ pub struct FlatReason {
 pub extern "C" fn skuldrefn_explain(context: FlatContext, bytes: &[u8], event: &[u8]) -> FlatReason
     ensures { λ r. ⌜ r ≡ flat-explanation context (now (bytes .entry)) (now (event .entry)) ⌝ }
 {
-    if !is_known(context) {
+    if !flat_contexts::is_known(context) {
         return FlatReason {
             reason: 1,
             answer: 1,
         };
     }
-    let r = reasons::explain(context_of(context), bytes, event);
+    let r = reasons::explain(flat_contexts::context_of(context), bytes, event);
     FlatReason {
         reason: reasons::number(r),
         answer: reasons::answer(r),
     }
+}
+
+// How many bytes the first event of a log has by its kind, more than the log where the record is cut; 0
+// where the kind is unknown or there is no byte.
+#[no_mangle]
+pub extern "C" fn skuldrefn_event_length(log: &[u8]) -> usize
+    ensures { λ r. ⌜ r ≡ told-length (now (log .entry)) ⌝ }
+{
+    logs::length_of_event(log)
 }
 
 // What a replay leaves: the context, the length of the table in force, whether the first of the two
@@ -268,9 +185,9 @@ pub extern "C" fn skuldrefn_replay(
         cpl: 0,
         place: Place::Outside,
     };
-    let r = replays::replay(fresh, log, first, second, rows);
+    let r = logs::replay(fresh, log, first, second, rows);
     let context = r.context;
-    let flat = flat_context(context);
+    let flat = flat_contexts::flat_context(context);
     FlatReplayed {
         context: flat,
         length: r.length,

@@ -5,15 +5,14 @@ use model::EventReading;
 use model::Step;
 ghost use mathlib.Core.Path.{_≡_};
 ghost use mathlib.Core.Bool.{true};
-ghost use mathlib.Core.List.{_++_};
 ghost use Prim.Native.Nat.{_+_, _≤_};
-ghost use lib.ListN.{length, take, drop};
+ghost use lib.ListN.{length};
+ghost use Rattle.model.specs.Buffers.{put};
 ghost use Rattle.model.specs.Layouts.{kind-of, mapping-kind};
 ghost use Rattle.model.specs.Tables.{whole, records};
 ghost use Rattle.model.specs.Events.{event};
-ghost use Rattle.model.specs.Scopes.{next-context};
-ghost use Rattle.model.specs.Answers.{created, no-room};
-ghost use Rattle.model.specs.Steps.{new-table, dropped-count, stepped, overwritten, written};
+ghost use Rattle.model.specs.Answers.{first, table-grounds, created, no-room};
+ghost use Rattle.model.specs.Steps.{new-table, accepted-step, refused-step, stepped, written};
 
 // The bytes are a creation's: their kind is a mapping's.
 fn is_creation(e: &[u8]) -> bool
@@ -22,8 +21,7 @@ fn is_creation(e: &[u8]) -> bool
     if e.len() == 0 {
         return false;
     }
-    let kind = e[0];
-    (1 <= kind) & (kind <= 6)
+    kinds::is_mapping(numbers::number1(e, 0))
 }
 
 // How many bytes an event adds to the table: a creation's own.
@@ -43,7 +41,7 @@ fn is_without_room(room: usize, table: &[u8], e: &[u8]) -> bool
 
 // What a refused step reports.
 fn refused(answer: u64, context: Context) -> Step
-    ensures { λ r. ⌜ r ≡ record { answer = answer; context = context; length = 0; dropped = 0 } ⌝ }
+    ensures { λ r. ⌜ r ≡ refused-step answer context ⌝ }
 {
     Step {
         answer,
@@ -53,37 +51,58 @@ fn refused(answer: u64, context: Context) -> Step
     }
 }
 
-// Writes a creation behind the first `at` bytes of the new buffer, and answers where the table then
-// ends; another event adds nothing.
+// Writes a creation at a position of the new buffer, and answers where it ends; another event adds
+// nothing.
 fn add_creation(raw: &[u8], new: &mut [u8], at: usize) -> usize
     requires { ⌜ at + length (created (now raw)) ≤ length (now new) ⌝ }
     ensures { λ r. ⌜ r ≡ at + length (created (now (raw .entry))) ⌝ }
-    ensures { λ _. ⌜ now (new .exit) ≡ take at (now (new .entry)) ++ (created (now (raw .entry)) ++ drop (length (created (now (raw .entry)))) (drop at (now (new .entry)))) ⌝ }
+    ensures { λ _. ⌜ now (new .exit) ≡ put at (created (now (raw .entry))) (now (new .entry)) ⌝ }
 {
     if !is_creation(raw) {
         return at;
     }
-    filters::copy_run(raw, 0, raw.len(), new, at)
+    buffers::put(raw, new, at)
 }
 
-// Writes the new table of an accepted event: the kept records, and a creation at the end. The table's
-// records are counted.
+// Writes the new table of an accepted event: the records out of scope, and a creation at the end. The
+// table's records are counted.
 fn perform(c: Context, e: Event, table: &[u8], count: usize, raw: &[u8], new: &mut [u8]) -> Step
     requires { ⌜ e ≡ event (now raw) ⌝ }
     requires { ⌜ whole (now table) ≡ true ⌝ }
     requires { ⌜ count ≡ length (records (now table)) ⌝ }
     requires { ⌜ length (now table) + length (created (now raw)) ≤ length (now new) ⌝ }
-    ensures { λ r. ⌜ r ≡ record { answer = 0; context = next-context c (event (now (raw .entry))); length = length (new-table c (now (table .entry)) (now (raw .entry))); dropped = dropped-count c (now (table .entry)) (now (raw .entry)) } ⌝ }
-    ensures { λ _. ⌜ now (new .exit) ≡ overwritten (new-table c (now (table .entry)) (now (raw .entry))) (now (new .entry)) ⌝ }
+    ensures { λ r. ⌜ r ≡ accepted-step c (now (table .entry)) (now (raw .entry)) ⌝ }
+    ensures { λ _. ⌜ now (new .exit) ≡ put 0 (new-table c (now (table .entry)) (now (raw .entry))) (now (new .entry)) ⌝ }
 {
-    let kept = filters::keep_counted(c, e, table, count, new);
-    let length = add_creation(raw, new, kept.length);
+    let filtered = filters::filter_counted(c, e, table, count, new);
+    let length = add_creation(raw, new, filtered.length);
     Step {
         answer: 0,
-        context: transitions::context_after(c, e),
+        context: next_contexts::next_context(c, e),
         length,
-        dropped: kept.dropped,
+        dropped: filtered.dropped,
     }
+}
+
+// One event on a context and a table to which answers 1 to 3 do not apply, and whose records are
+// counted: answers 4 to 12, and what `step` writes.
+pub fn step_judged(c: Context, table: &[u8], count: usize, event: &[u8], new: &mut [u8]) -> Step
+    requires { ⌜ first (table-grounds c (now table)) ≡ 0 ⌝ }
+    requires { ⌜ count ≡ length (records (now table)) ⌝ }
+    ensures { λ r. ⌜ r ≡ stepped c (now (table .entry)) (now (event .entry)) (length (now (new .entry))) ⌝ }
+    ensures { λ _. ⌜ now (new .exit) ≡ written c (now (table .entry)) (now (event .entry)) (now (new .entry)) ⌝ }
+{
+    let EventReading::Read(e) = events::read_event(event) else {
+        return refused(4, c);
+    };
+    let answer = answers::answer_to_event(c, e);
+    if answer != 0 {
+        return refused(answer, c);
+    }
+    if is_without_room(new.len(), table, event) {
+        return refused(12, c);
+    }
+    perform(c, e, table, count, event, new)
 }
 
 // One event on a context and a table. An accepted event's new table is written to the front of the new
@@ -93,19 +112,9 @@ pub fn step(c: Context, table: &[u8], event: &[u8], new: &mut [u8]) -> Step
     ensures { λ r. ⌜ r ≡ stepped c (now (table .entry)) (now (event .entry)) (length (now (new .entry))) ⌝ }
     ensures { λ _. ⌜ now (new .exit) ≡ written c (now (table .entry)) (now (event .entry)) (now (new .entry)) ⌝ }
 {
-    let first = tables::judge(c, table);
-    if first.answer != 0 {
-        return refused(first.answer, c);
+    let judged = tables::judge(c, table);
+    if judged.answer != 0 {
+        return refused(judged.answer, c);
     }
-    let EventReading::Read(e) = events::read_event(event) else {
-        return refused(4, c);
-    };
-    let second = answers::answer_to_event(c, e);
-    if second != 0 {
-        return refused(second, c);
-    }
-    if is_without_room(new.len(), table, event) {
-        return refused(12, c);
-    }
-    perform(c, e, table, first.records, event, new)
+    step_judged(c, table, judged.records, event, new)
 }

@@ -1,11 +1,10 @@
 //! Lookups that find the first record, the last one or none.
 
-use crate::measure::{time, Buffers, Calls, Item};
-use crate::report::{Row, What};
-use crate::steps::plain_copy;
+use crate::measure::{plain_copy, time, Buffers, Calls, Item};
+use crate::rows::{Row, What};
 use crate::tables::{guest, Shape, Tables, EP4TA};
-use bridge::FlatContext;
-use model::{tuned, Address, Context, TABLE_LIMIT};
+use common::{Record, TABLE_LIMIT};
+use model::{tuned, Address, Context};
 use std::hint::black_box;
 use std::rc::Rc;
 
@@ -29,23 +28,22 @@ pub const PLACES: [(Where, &str); 3] = [
 /// The context of a lookup, and a record that it finds: kind 4 with EPT not
 /// in use, kind 6 with EPT in use, and kind 5 for a guest-physical address.
 fn wanted(shape: Shape, address: Address) -> (Context, Vec<u8>) {
-    let page = &PAGE.to_le_bytes()[..5];
-    let ep4ta = &EP4TA.to_le_bytes()[..5];
-    let tags = [5, 0, 0, 0];
-    match (shape, address) {
-        (Shape::Mixed, Address::Linear(_)) => (
-            guest(5, Some(EP4TA)),
-            [&[6], &tags[..], &[1], page, &[7; 5], ep4ta].concat(),
-        ),
-        (Shape::Mixed, Address::GuestPhysical(_)) => (
-            guest(5, Some(EP4TA)),
-            [&[5], ep4ta, &[1], page, &[7; 5]].concat(),
-        ),
-        _ => (
-            guest(5, None),
-            [&[4], &tags[..], &[1], page, &[7; 5]].concat(),
-        ),
-    }
+    let (kind, ept) = match (shape, address) {
+        (Shape::Mixed, Address::Linear(_)) => (6, Some(EP4TA)),
+        (Shape::Mixed, Address::GuestPhysical(_)) => (5, Some(EP4TA)),
+        _ => (4, None),
+    };
+    let record = Record {
+        kind,
+        vpid: 5,
+        pcid: 0,
+        global: 0,
+        span: 1,
+        page: PAGE,
+        frame: 7,
+        ep4ta: EP4TA,
+    };
+    (guest(5, ept), record.bytes())
 }
 
 /// The table with one record changed for the one that is looked up.
@@ -103,7 +101,7 @@ pub fn item(
 }
 
 fn library(context: &Context, all: Rc<Vec<Vec<u8>>>, address: Address) -> Calls {
-    let context = FlatContext::from(context);
+    let context = bridge::flat(context);
     Box::new(move || {
         time(all.len(), || {
             for table in all.iter() {

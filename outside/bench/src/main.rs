@@ -1,17 +1,22 @@
 //! `bench [--csv FILE] [--svg FILE]`: what an event and a record cost.
 
+mod bars;
 mod lookups;
 mod measure;
 mod plot;
 mod replays;
 mod report;
+mod rows;
 mod steps;
 mod tables;
 
+use common::TABLE_LIMIT;
 use measure::{Buffers, Item};
-use model::{Address, TABLE_LIMIT};
-use report::{Row, What};
+use model::Address;
+use rows::{Row, What};
 use std::env;
+use std::fs::File;
+use std::io::{self, Write};
 use std::process::ExitCode;
 use tables::{Shape, COUNTS, SHAPES};
 
@@ -42,8 +47,12 @@ fn files(words: &[String]) -> Option<Files> {
     let mut files = Files::default();
     for pair in words.chunks(2) {
         match pair {
-            [flag, file] if flag == "--csv" => files.csv = Some(file.clone()),
-            [flag, file] if flag == "--svg" => files.svg = Some(file.clone()),
+            [flag, file] if flag == "--csv" && files.csv.is_none() => {
+                files.csv = Some(file.clone());
+            }
+            [flag, file] if flag == "--svg" && files.svg.is_none() => {
+                files.svg = Some(file.clone());
+            }
             _ => return None,
         }
     }
@@ -52,24 +61,45 @@ fn files(words: &[String]) -> Option<Files> {
 
 fn main() -> ExitCode {
     let words: Vec<String> = env::args().skip(1).collect();
-    let Some(files) = files(&words) else {
-        eprintln!("{USAGE}");
-        return ExitCode::from(2);
+    let is_help = words.len() == 1 && ["help", "-h", "--help"].contains(&&words[0][..]);
+    let ended = match files(&words) {
+        _ if is_help => print(USAGE),
+        Some(files) => bench(&files),
+        None => {
+            tell(USAGE);
+            return ExitCode::from(2);
+        }
     };
-    match bench(&files) {
+    match ended {
         Ok(()) => ExitCode::SUCCESS,
         Err(why) => {
-            eprintln!("bench: {why}");
+            tell(&format!("bench: {why}"));
             ExitCode::FAILURE
         }
     }
 }
 
+/// Text and a line end on standard output.
+fn print(text: &str) -> Result<(), String> {
+    writeln!(io::stdout(), "{text}")
+        .map_err(|error| format!("standard output cannot be written: {error}"))
+}
+
+/// A line on standard error; if that is gone there is nobody left to tell.
+fn tell(line: &str) {
+    let _ = writeln!(io::stderr(), "{line}");
+}
+
 fn bench(files: &Files) -> Result<(), String> {
-    println!("{NOTES}");
+    for file in [&files.csv, &files.svg].into_iter().flatten() {
+        // What is there stays until the end.
+        let opened = File::options().append(true).create(true).open(file);
+        opened.map_err(|error| format!("{file}: {error}"))?;
+    }
+    print(NOTES)?;
     let mut items = items()?;
     for pass in 1..=PASSES {
-        eprintln!("pass {pass} of {PASSES}");
+        tell(&format!("pass {pass} of {PASSES}"));
         for item in &mut items {
             // Replays take longer, and each is many calls already.
             let replay = item.row.what == What::Replay;
@@ -77,8 +107,11 @@ fn bench(files: &Files) -> Result<(), String> {
         }
     }
     let rows: Vec<Row> = items.into_iter().map(|item| item.row).collect();
-    print!("{}", report::table(&rows));
-    println!("\nbars\n{}", report::bars(&rows));
+    print(&format!(
+        "{}\nbars\n{}",
+        report::table(&rows),
+        bars::bars(&rows)
+    ))?;
     write(&files.csv, &report::csv(&rows))?;
     write(&files.svg, &plot::svg(&rows, Shape::Scattered.name()))
 }
@@ -117,4 +150,19 @@ fn items() -> Result<Vec<Item>, String> {
         items.push(replays::item(log, &buffers, &others)?);
     }
     Ok(items)
+}
+
+#[cfg(test)]
+mod tests {
+    use super::*;
+
+    /// On all that is measured the library and the tuned model do the same.
+    #[test]
+    fn all_items_agree() {
+        let items = items().expect("no difference");
+        let count = |what| items.iter().filter(|item| item.row.what == what).count();
+        assert_eq!(count(What::Step), 3 * 17 * COUNTS.len());
+        assert!(count(What::Lookup) > 30);
+        assert_eq!(count(What::Replay), 4);
+    }
 }

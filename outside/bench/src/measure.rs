@@ -1,7 +1,8 @@
 //! Timing.
 
-use crate::report::Row;
+use crate::rows::Row;
 use std::cell::RefCell;
+use std::hint::black_box;
 use std::rc::Rc;
 
 /// A buffer that all measurements of one contestant share. It is filled once
@@ -43,6 +44,19 @@ pub fn time(events: usize, work: impl FnOnce()) -> f64 {
     let start = processor_time();
     work();
     (processor_time() - start) as f64 / events as f64
+}
+
+/// A plain copy of the same bytes.
+pub fn plain_copy(olds: Rc<Vec<Vec<u8>>>, new: Shared) -> Calls {
+    Box::new(move || {
+        let mut new = new.borrow_mut();
+        time(olds.len(), || {
+            for old in olds.iter() {
+                new[..old.len()].copy_from_slice(black_box(old));
+                black_box(&mut new[..]);
+            }
+        })
+    })
 }
 
 #[repr(C)]

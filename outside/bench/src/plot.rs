@@ -1,7 +1,7 @@
 //! A plot of the times against the records, as SVG: a panel for each family,
 //! both axes logarithmic.
 
-use crate::report::{Row, What};
+use crate::rows::{Row, What};
 use std::fmt::Write;
 
 const WIDTH: f64 = 260.0;
@@ -138,5 +138,35 @@ fn panel(out: &mut String, axes: &Axes, title: &str, points: &[&Row]) {
              stroke-dasharray=\"{dash}\"/>",
             line.join(" ")
         );
+    }
+}
+
+#[cfg(test)]
+mod tests {
+    use super::*;
+
+    #[test]
+    fn a_panel_for_each_family_of_one_table() {
+        let row = |what, family: &str, table: &str, records| Row {
+            what,
+            family: family.to_string(),
+            table: table.to_string(),
+            records,
+            bytes: 16 * records,
+            events: 1,
+            times: [10.0, 100.0, 1_000.0],
+        };
+        let rows = [
+            row(What::Step, "reset", "alike", 16),
+            row(What::Step, "reset", "alike", 176),
+            row(What::Lookup, "linear, first", "alike", 16),
+            row(What::Step, "INVLPG", "mixed", 16),
+            row(What::Replay, "random events", "", 0),
+        ];
+        let svg = svg(&rows, "alike");
+        assert!(svg.starts_with("<svg ") && svg.ends_with("</svg>\n"));
+        assert_eq!(svg.matches("<polyline ").count(), 2 * STYLES.len());
+        assert!(svg.contains(">reset<") && svg.contains(">lookup: linear, first<"));
+        assert!(!svg.contains("INVLPG") && !svg.contains("random events"));
     }
 }

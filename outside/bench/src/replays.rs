@@ -1,10 +1,11 @@
 //! Replays of whole logs.
 
 use crate::measure::{time, Buffers, Calls, Item, Shared};
-use crate::report::{Row, What};
-use bridge::{FlatReplayed, ROW};
+use crate::rows::{Row, What};
+use bridge::FlatReplayed;
+use common::{encode, LOG_LIMIT, PROGRAM_CAPABILITY, PROGRAM_WIDTH, ROW, TABLE_LIMIT};
 use generate::Rng;
-use model::{tuned, Line, LOG_LIMIT, PROGRAM_CAPABILITY, PROGRAM_WIDTH, TABLE_LIMIT};
+use model::{tuned, Line};
 use std::hint::black_box;
 use std::mem::swap;
 use std::rc::Rc;
@@ -18,7 +19,8 @@ pub struct Log {
 /// The logs: the two shapes of the generator, then two that keep the table
 /// full for long.
 pub fn logs() -> Vec<Log> {
-    let creation = [4, 0, 0, 0, 0, 1, 0, 0, 0, 0, 0, 7, 7, 7, 7, 7];
+    // VPID 0, PCID 0, span 1, page 0.
+    let creation = encode(4, &[0, 0, 1, 0, 0x07_0707_0707]);
     let filling = creation.repeat(TABLE_LIMIT / creation.len());
     let switches = [22, 23].repeat((LOG_LIMIT - TABLE_LIMIT) / 2);
     vec![
@@ -64,9 +66,8 @@ fn is_whole(log: &[u8]) -> bool {
 
 fn write_row(rows: &mut [u8], line: Line) {
     let at = ROW * (line.number as usize - 1);
-    rows[at..at + 8].copy_from_slice(&line.answer.to_le_bytes());
-    rows[at + 8..at + 16].copy_from_slice(&(line.dropped as u64).to_le_bytes());
-    rows[at + 16..at + 24].copy_from_slice(&(line.length as u64).to_le_bytes());
+    let numbers = [line.answer, line.dropped as u64, line.length as u64];
+    common::write_row(&mut rows[at..at + ROW], numbers);
 }
 
 /// The replay of a log. Its plain copy is that of each event's old table.

@@ -1,77 +1,8 @@
-//! What was measured, as a table, as CSV, and against the bars.
+//! What was measured, as a table for reading and as CSV.
 
+use crate::rows::{full_of, growth, same, series, Row, What};
 use crate::tables::COUNTS;
 use std::fmt::Write;
-
-#[derive(Clone, Copy, PartialEq, Eq)]
-pub enum What {
-    Step,
-    Lookup,
-    Replay,
-}
-
-impl What {
-    pub fn name(self) -> &'static str {
-        match self {
-            What::Step => "step",
-            What::Lookup => "lookup",
-            What::Replay => "replay",
-        }
-    }
-}
-
-/// One measurement.
-pub struct Row {
-    pub what: What,
-    pub family: String,
-    /// The shape of the table; none for a replay.
-    pub table: String,
-    pub records: usize,
-    pub bytes: usize,
-    pub events: usize,
-    /// Nanoseconds of an event: the library, the tuned model, a plain copy.
-    pub times: [f64; 3],
-}
-
-impl Row {
-    pub fn ours(&self) -> f64 {
-        self.times[0]
-    }
-
-    /// How many times the tuned model's time.
-    pub fn to_tuned(&self) -> f64 {
-        self.times[0] / self.times[1]
-    }
-
-    /// How many times a plain copy's.
-    pub fn to_copy(&self) -> f64 {
-        self.times[0] / self.times[2]
-    }
-
-    pub fn per_record(&self) -> f64 {
-        self.times[0] / self.records.max(1) as f64
-    }
-}
-
-/// The bars.
-const TUNED_BAR: f64 = 2.0;
-const GROWTH_BAR: f64 = 2.2;
-
-/// The rows of one family on one shape of table, by their records.
-fn series<'a>(rows: &'a [Row], like: &Row) -> Vec<&'a Row> {
-    let same =
-        |row: &&Row| row.what == like.what && row.family == like.family && row.table == like.table;
-    rows.iter().filter(same).collect()
-}
-
-/// The growth from 1,408 records to twice as many; for a table with fewer it
-/// is scaled to twice.
-fn growth(series: &[&Row]) -> Option<f64> {
-    let half = series.iter().find(|row| row.records == COUNTS[3])?;
-    let full = series.last().filter(|row| row.records > COUNTS[3])?;
-    let times = full.records as f64 / half.records as f64;
-    Some(full.ours() / half.ours() * 2.0 / times)
-}
 
 /// The table for reading: a line for each family and shape of table.
 pub fn table(rows: &[Row]) -> String {
@@ -94,18 +25,6 @@ pub fn table(rows: &[Row]) -> String {
         }
     }
     out + &replays(rows)
-}
-
-fn same(one: &Row, other: &Row) -> bool {
-    one.what == other.what && one.family == other.family && one.table == other.table
-}
-
-/// The records of the fullest table of this block.
-fn full_of(rows: &[Row], like: &Row) -> usize {
-    let block = rows
-        .iter()
-        .filter(|row| row.what == like.what && row.table == like.table);
-    block.map(|row| row.records).max().unwrap_or(0)
 }
 
 fn head(heading: &str, full: &usize) -> String {
@@ -186,87 +105,4 @@ pub fn csv(rows: &[Row]) -> String {
         );
     }
     out
-}
-
-/// One bar: what it is about, the worst that was measured, and where.
-struct Bar {
-    about: &'static str,
-    limit: f64,
-    worst: f64,
-    at: String,
-    missed: Vec<String>,
-}
-
-impl Bar {
-    fn new(about: &'static str, limit: f64, measured: Vec<(f64, String)>) -> Bar {
-        let mut bar = Bar {
-            about,
-            limit,
-            worst: 0.0,
-            at: String::new(),
-            missed: Vec::new(),
-        };
-        for (times, name) in measured {
-            if times > limit {
-                bar.missed.push(format!("{name} {times:.2}"));
-            }
-            if times > bar.worst {
-                bar.worst = times;
-                bar.at = name;
-            }
-        }
-        bar
-    }
-
-    fn print(&self) -> String {
-        let verdict = if self.missed.is_empty() {
-            "pass"
-        } else {
-            "MISS"
-        };
-        let mut out = format!(
-            "{verdict}  {}: at most {:.1} times; worst {:.2} ({})\n",
-            self.about, self.limit, self.worst, self.at
-        );
-        if !self.missed.is_empty() {
-            let _ = writeln!(out, "      missed by: {}", self.missed.join("; "));
-        }
-        out
-    }
-}
-
-/// The bars with pass or miss.
-pub fn bars(rows: &[Row]) -> String {
-    let name = |row: &Row| format!("{} on {}", row.family, row.table);
-    let full = |row: &&Row| row.what != What::Replay && row.records == full_of(rows, row);
-    let steps = rows
-        .iter()
-        .filter(|row| row.what == What::Step && full(row))
-        .map(|row| (row.to_tuned(), name(row)));
-    let replays = rows
-        .iter()
-        .filter(|row| row.what == What::Replay)
-        .map(|row| (row.to_tuned(), row.family.clone()));
-    let growths = rows
-        .iter()
-        .filter(full)
-        .filter_map(|row| Some((growth(&series(rows, row))?, name(row))));
-    let bars = [
-        Bar::new(
-            "step on a full table, beside the tuned model",
-            TUNED_BAR,
-            steps.collect(),
-        ),
-        Bar::new(
-            "replay of a log of 65,536 bytes, beside the tuned model",
-            TUNED_BAR,
-            replays.collect(),
-        ),
-        Bar::new(
-            "twice the records (1,408 to 2,816)",
-            GROWTH_BAR,
-            growths.collect(),
-        ),
-    ];
-    bars.iter().map(Bar::print).collect()
 }

@@ -1,10 +1,10 @@
 //! Steps: each family of events on each table.
 
-use crate::measure::{time, Buffers, Calls, Item, Shared};
-use crate::report::{Row, What};
+use crate::measure::{plain_copy, time, Buffers, Calls, Item, Shared};
+use crate::rows::{Row, What};
 use crate::tables::{at, guest, starts, Tables, EP4TA, PAGE};
-use bridge::FlatContext;
-use model::{tuned, Context, Place, TABLE_LIMIT};
+use common::{encode, is_mapping_kind, TABLE_LIMIT};
+use model::{tuned, Context, Place};
 use std::hint::black_box;
 use std::rc::Rc;
 
@@ -15,28 +15,17 @@ pub struct Family {
     event: Vec<u8>,
 }
 
-fn bytes(kind: u8, fields: &[(u64, usize)]) -> Vec<u8> {
-    let mut bytes = vec![kind];
-    for (number, count) in fields {
-        bytes.extend_from_slice(&number.to_le_bytes()[..*count]);
-    }
-    bytes
-}
-
 fn invvpid(kind: u64) -> Vec<u8> {
-    bytes(16, &[(kind, 8), (5, 8), (PAGE << 12, 8)])
+    encode(16, &[kind, 5, PAGE << 12])
 }
 
 fn invept(kind: u64) -> Vec<u8> {
-    bytes(17, &[(kind, 8), (EP4TA << 12 | 0x1E, 8), (0, 8)])
+    encode(17, &[kind, EP4TA << 12 | 0x1E, 0])
 }
 
 fn entry(vpid: u64) -> Vec<u8> {
     let enabled = u64::from(vpid != 0);
-    bytes(
-        20,
-        &[(enabled, 1), (vpid, 2), (0, 1), (0, 8), (0, 2), (0, 1)],
-    )
+    encode(20, &[enabled, vpid, 0, 0, 0, 0])
 }
 
 /// All families.
@@ -49,9 +38,9 @@ pub fn families() -> Vec<Family> {
         event,
     };
     let address = PAGE << 12;
-    let violation = bytes(19, &[(address, 8), (1, 1), (address, 8)]);
+    let violation = encode(19, &[address, 1, address]);
     // VPID 0, PCID 0: can be created in root.
-    let creation = bytes(4, &[(0, 2), (0, 2), (1, 1), (0, 5), (7, 5)]);
+    let creation = encode(4, &[0, 0, 1, 0, 7]);
     vec![
         of("creation", root, creation),
         of("INVVPID 0", root, invvpid(0)),
@@ -60,16 +49,16 @@ pub fn families() -> Vec<Family> {
         of("INVVPID 3", root, invvpid(3)),
         of("INVEPT 1", root, invept(1)),
         of("INVEPT 2", root, invept(2)),
-        of("INVLPG", root, bytes(18, &[(address, 8)])),
+        of("INVLPG", root, encode(18, &[address])),
         of("EPT violation", guest(5, Some(EP4TA)), violation),
         of("entry, VPIDs off", root, entry(0)),
         of("entry, VPID 5", root, entry(5)),
-        of("exit, VPIDs off", guest(0, None), bytes(21, &[(0, 2)])),
-        of("exit, VPID 5", guest(5, None), bytes(21, &[(0, 2)])),
-        of("VMXON", outside, vec![22]),
-        of("VMXOFF", root, vec![23]),
-        of("new PCID", root, bytes(24, &[(1, 2), (0, 1)])),
-        of("reset", root, vec![25]),
+        of("exit, VPIDs off", guest(0, None), encode(21, &[0])),
+        of("exit, VPID 5", guest(5, None), encode(21, &[0])),
+        of("VMXON", outside, encode(22, &[])),
+        of("VMXOFF", root, encode(23, &[])),
+        of("new PCID", root, encode(24, &[1, 0])),
+        of("reset", root, encode(25, &[])),
     ]
 }
 
@@ -101,7 +90,7 @@ pub fn item(family: &Family, tables: &Tables, buffers: &Buffers) -> Result<Item,
 fn old_tables(family: &Family, tables: &Tables) -> Vec<Vec<u8>> {
     let mut olds = tables.all.clone();
     for table in &mut olds {
-        if family.event[0] <= 6 && table.len() + family.event.len() > TABLE_LIMIT {
+        if is_mapping_kind(family.event[0]) && table.len() + family.event.len() > TABLE_LIMIT {
             table.truncate(starts(table).last().copied().unwrap_or(0));
         }
     }
@@ -109,7 +98,7 @@ fn old_tables(family: &Family, tables: &Tables) -> Vec<Vec<u8>> {
 }
 
 fn library(family: &Family, olds: Rc<Vec<Vec<u8>>>, new: Shared) -> Calls {
-    let context = FlatContext::from(&family.context);
+    let context = bridge::flat(&family.context);
     let event = family.event.clone();
     Box::new(move || {
         let mut new = new.borrow_mut();
@@ -134,19 +123,6 @@ fn tuned_model(family: &Family, olds: Rc<Vec<Vec<u8>>>, new: Shared) -> Calls {
         time(olds.len(), || {
             for old in olds.iter() {
                 black_box(tuned::step(black_box(&context), old, &event, &mut new));
-            }
-        })
-    })
-}
-
-/// A plain copy of the same bytes.
-pub fn plain_copy(olds: Rc<Vec<Vec<u8>>>, new: Shared) -> Calls {
-    Box::new(move || {
-        let mut new = new.borrow_mut();
-        time(olds.len(), || {
-            for old in olds.iter() {
-                new[..old.len()].copy_from_slice(black_box(old));
-                black_box(&mut new[..]);
             }
         })
     })

@@ -1,7 +1,8 @@
 //! The tables that are measured.
 
+use common::{Record, TABLE_LIMIT};
 use generate::Rng;
-use model::{Context, Place, TABLE_LIMIT};
+use model::{Context, Place};
 
 /// The numbers of records.
 pub const COUNTS: [usize; 5] = [0, 16, 176, 1_408, 2_816];
@@ -106,29 +107,28 @@ fn record(rng: &mut Rng, shape: Shape) -> Vec<u8> {
 
 /// A record of a kind with tags from the small sets.
 fn scattered(rng: &mut Rng, kind: u8) -> Vec<u8> {
-    let mut record = vec![kind];
-    let mut put = |number: u64, count: usize| {
-        record.extend_from_slice(&number.to_le_bytes()[..count]);
-    };
     let ep4ta = rng.pick(&EP4TAS);
-    if matches!(kind, 2 | 5) {
-        put(ep4ta, 5);
-    } else {
-        put(rng.pick(&VPIDS), 2);
-        put(rng.pick(&PCIDS), 2);
-    }
-    if matches!(kind, 1 | 3) {
-        put(rng.pick(&[0, 0, 0, 1]), 1);
-    }
+    let (vpid, pcid) = match kind {
+        2 | 5 => (0, 0),
+        _ => (rng.pick(&VPIDS), rng.pick(&PCIDS)),
+    };
+    let global = match kind {
+        1 | 3 => rng.pick(&[0, 0, 0, 1]),
+        _ => 0,
+    };
     let span = 1 + rng.below(2) as u64;
     let page = rng.pick(&[PAGE, 0x54_3210, 0x7FF_FFFF, 1 << 35]);
-    put(span, 1);
-    put(page >> (9 * span) << (9 * span), 5);
-    put(rng.number() >> 24, 5);
-    if matches!(kind, 3 | 6) {
-        put(ep4ta, 5);
-    }
-    record
+    let record = Record {
+        kind,
+        vpid,
+        pcid,
+        global,
+        span,
+        page: page >> (9 * span) << (9 * span),
+        frame: rng.number() >> 24,
+        ep4ta,
+    };
+    record.bytes()
 }
 
 /// A context at CPL 0 with PCID 0 and the program's numbers.

@@ -1,6 +1,9 @@
 //! The events of document 01 as names and fields, in the order of their
 //! bytes.
 
+use common::{canonical, PAGES};
+use std::fmt::Write;
+
 /// An event: its kind byte, its name and its fields.
 pub struct Form {
     pub kind: u8,
@@ -204,7 +207,7 @@ impl Field {
                 self.at_most(number, most)
             }
             Rule::Page => {
-                self.at_most(number, (1 << 36) - 1)?;
+                self.at_most(number, PAGES - 1)?;
                 let pages = 1 << (9 * before);
                 if !number.is_multiple_of(pages) {
                     return Err(format!(
@@ -214,8 +217,7 @@ impl Field {
                 Ok(())
             }
             Rule::Canonical => {
-                let top = number >> 47;
-                if top != 0 && top != 0x1_FFFF {
+                if number != canonical(number) {
                     return Err(format!("{name} is a canonical address"));
                 }
                 Ok(())
@@ -235,4 +237,19 @@ impl Field {
         }
         Ok(())
     }
+}
+
+/// The names and their fields, for a user.
+pub fn names() -> String {
+    let mut text = String::new();
+    for form in &FORMS {
+        let _ = write!(text, "  {}", form.name);
+        for field in form.written() {
+            let off = if field.optional { "|off" } else { "" };
+            let _ = write!(text, " {}=0x..{off}", field.name);
+        }
+        text.push('\n');
+    }
+    text.push_str("  raw .. .. ..\n");
+    text
 }

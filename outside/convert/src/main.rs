@@ -1,65 +1,111 @@
-//! `convert assemble < TEXT > LOG` and `convert disassemble < LOG > TEXT`.
+//! `convert assemble [FILE]` and `convert disassemble [FILE]`, to standard output.
 //!
-//! On an error nothing is written to standard output, the reason goes to
-//! standard error, and the exit status is 1.
+//! On an error nothing is written to standard output, and the reason goes to
+//! standard error. Exit status 1 for a bad text, a file that cannot be read
+//! and an output that cannot be written; 2 for wrong words.
 
+use common::LOG_LIMIT;
+use std::ffi::{OsStr, OsString};
+use std::fs;
 use std::io::{self, Read, Write};
 use std::process::ExitCode;
 
 const USAGE: &str = "\
-usage: convert assemble < TEXT > LOG       the text of a log to its bytes
-       convert disassemble < LOG > TEXT    the bytes of a log to its text
+usage: convert assemble [FILE] > LOG       the text of a log to its bytes
+       convert disassemble [FILE] > TEXT   the bytes of a log to its text
+Where FILE is - or not given, standard input is read; -- goes before a FILE
+that starts with -.
 
 A text has one event a line, with every field of the event; values are
 hexadecimal with 0x; # starts a comment. The events:
 
 ";
 
+/// What a failed run says, and its exit status.
+struct Failure(u8, String);
+
+fn failed(reason: String) -> Failure {
+    Failure(1, reason)
+}
+
 fn main() -> ExitCode {
     match run() {
         Ok(()) => ExitCode::SUCCESS,
-        Err(reason) => {
+        Err(Failure(status, reason)) => {
             // If standard error is gone too there is nobody left to tell.
             let _ = writeln!(io::stderr(), "{reason}");
-            ExitCode::FAILURE
+            ExitCode::from(status)
         }
     }
 }
 
-fn run() -> Result<(), String> {
-    let arguments: Vec<_> = std::env::args_os().skip(1).collect();
-    let words: Vec<_> = arguments.iter().map(|word| word.to_str()).collect();
-    match words[..] {
-        [Some("assemble")] => {
-            let log = convert::assemble(&input()?).map_err(|error| error.to_string())?;
-            output(&log)?;
-            if log.len() > convert::LOG_LIMIT {
-                let _ = writeln!(
-                    io::stderr(),
-                    "note: the log has {} bytes; the replay program reads at most {}",
-                    log.len(),
-                    convert::LOG_LIMIT
-                );
-            }
-            Ok(())
+fn run() -> Result<(), Failure> {
+    let words: Vec<OsString> = std::env::args_os().skip(1).collect();
+    let Some((command, rest)) = words.split_first() else {
+        return Err(wrong("no command is given"));
+    };
+    match command.to_str() {
+        Some("assemble") => assemble(file(rest)?),
+        Some("disassemble") => {
+            let log = input(file(rest)?).map_err(failed)?;
+            output(convert::disassemble(&log).as_bytes()).map_err(failed)
         }
-        [Some("disassemble")] => output(convert::disassemble(&input()?).as_bytes()),
-        [Some("help" | "--help" | "-h")] => output(usage().as_bytes()),
-        _ => Err(usage()),
+        Some("help" | "--help" | "-h") if rest.is_empty() => {
+            output(usage().as_bytes()).map_err(failed)
+        }
+        _ => Err(wrong(&format!("no command {command:?}"))),
     }
+}
+
+fn wrong(why: &str) -> Failure {
+    Failure(2, format!("convert: {why}\n{}", usage()))
 }
 
 fn usage() -> String {
-    format!("{USAGE}{}", convert::names())
+    format!("{USAGE}{}", convert::forms::names())
 }
 
-fn input() -> Result<Vec<u8>, String> {
-    let mut bytes = Vec::new();
-    io::stdin()
-        .lock()
-        .read_to_end(&mut bytes)
-        .map_err(|error| format!("cannot read standard input: {error}"))?;
-    Ok(bytes)
+/// The file that the words name; None for standard input.
+fn file(words: &[OsString]) -> Result<Option<&OsStr>, Failure> {
+    let dashes = words.first().is_some_and(|word| word == "--");
+    match &words[usize::from(dashes)..] {
+        [] => Ok(None),
+        [word] if word == "-" => Ok(None),
+        [word] if dashes || !word.as_encoded_bytes().starts_with(b"-") => Ok(Some(word)),
+        [word] => Err(wrong(&format!("no option {word:?}"))),
+        [_, word, ..] => Err(wrong(&format!("{word:?} is one word too many"))),
+    }
+}
+
+fn assemble(file: Option<&OsStr>) -> Result<(), Failure> {
+    let text = input(file).map_err(failed)?;
+    let log = convert::assemble(&text).map_err(|error| match file {
+        None => failed(error.to_string()),
+        Some(file) => failed(format!("{}: {error}", file.display())),
+    })?;
+    output(&log).map_err(failed)?;
+    if log.len() > LOG_LIMIT {
+        let _ = writeln!(
+            io::stderr(),
+            "note: the log has {} bytes; the replay program reads at most {}",
+            log.len(),
+            LOG_LIMIT
+        );
+    }
+    Ok(())
+}
+
+fn input(file: Option<&OsStr>) -> Result<Vec<u8>, String> {
+    match file {
+        Some(file) => fs::read(file).map_err(|error| format!("{}: {error}", file.display())),
+        None => {
+            let mut bytes = Vec::new();
+            match io::stdin().lock().read_to_end(&mut bytes) {
+                Ok(_) => Ok(bytes),
+                Err(error) => Err(format!("cannot read standard input: {error}")),
+            }
+        }
+    }
 }
 
 fn output(bytes: &[u8]) -> Result<(), String> {

@@ -56,16 +56,66 @@ fn a_long_log_is_noted() {
 }
 
 #[test]
-fn usage() {
-    for words in [&[][..], &["assembel"], &["assemble", "x"]] {
+fn words_that_are_not_taken() {
+    for words in [
+        &[][..],
+        &["assembel"],
+        &["assemble", "-x"],
+        &["assemble", "--", "a", "b"],
+        &["disassemble", "-", "-"],
+        &["help", "me"],
+    ] {
         let output = run(words, b"", Stdio::piped());
+        assert_eq!(output.status.code(), Some(2), "{words:?}");
+        assert!(output.stdout.is_empty());
+        assert!(said(&output).contains("\nusage: "));
+    }
+    for word in ["help", "--help", "-h"] {
+        let output = run(&[word], b"", Stdio::piped());
+        assert!(output.status.success());
+        assert!(output.stdout.starts_with(b"usage: "));
+    }
+}
+
+#[test]
+fn a_file_or_standard_input() {
+    let examples = concat!(env!("CARGO_MANIFEST_DIR"), "/../../examples");
+    let text = format!("{examples}/five-events.txt");
+    let log = format!("{examples}/five-events.log");
+    let due = std::fs::read(&log).expect("an example");
+    for words in [&["assemble", &text][..], &["assemble", "--", &text]] {
+        let output = run(words, b"vmxon", Stdio::piped());
+        assert!(output.status.success());
+        assert_eq!(output.stdout, due);
+    }
+    let shown = run(&["disassemble", &log], b"", Stdio::piped()).stdout;
+    assert_eq!(
+        shown,
+        run(&["disassemble", "-"], &due, Stdio::piped()).stdout
+    );
+    let output = run(&["assemble", &log], b"", Stdio::piped());
+    assert_eq!(output.status.code(), Some(1));
+    assert!(output.stdout.is_empty());
+    assert!(said(&output).starts_with(&format!("{log}: line 1: ")));
+}
+
+#[test]
+fn an_input_that_cannot_be_read() {
+    let folder = env!("CARGO_MANIFEST_DIR");
+    for word in ["assemble", "disassemble"] {
+        let output = run(&[word, folder], b"", Stdio::piped());
         assert_eq!(output.status.code(), Some(1));
         assert!(output.stdout.is_empty());
-        assert!(said(&output).starts_with("usage: "));
+        assert!(said(&output).starts_with(folder));
+        let output = Command::new(env!("CARGO_BIN_EXE_convert"))
+            .arg(word)
+            .stdin(File::open(folder).expect("a folder"))
+            .output()
+            .expect("the program starts");
+        assert_eq!(output.status.code(), Some(1));
+        assert!(output.stdout.is_empty());
+        assert!(said(&output).starts_with("cannot read standard input: "));
     }
-    let output = run(&["help"], b"", Stdio::piped());
-    assert!(output.status.success());
-    assert!(output.stdout.starts_with(b"usage: "));
 }
 
 #[test]

@@ -1,7 +1,8 @@
 //! Text to log and back, for good texts, bad texts and any bytes.
 
+use common::{hex, KINDS};
 use convert::{assemble, disassemble, forms::FORMS};
-use generate::{events, hex, log, near_events, Rng, KINDS};
+use generate::{events, log, near_events, Rng};
 use model::event::Event;
 
 const SEED: u64 = 5;
@@ -83,6 +84,24 @@ fn comments_blanks_and_order() {
     assert_eq!(assemble(b"").unwrap(), []);
     assert_eq!(assemble(b"#").unwrap(), []);
     assert_eq!(disassemble(&[]), "# 0 bytes\n");
+}
+
+#[test]
+fn comments_hold_any_bytes() {
+    let every: Vec<u8> = (0..=255).filter(|byte| *byte != b'\n').collect();
+    let text = [b"vmxon #", &every[..], b"\n#\xFF\xFE\nreset"].concat();
+    assert_eq!(assemble(&text), Ok(vec![22, 25]));
+    let error = assemble(b"vmxon\nvmx\xFF # \xFF").expect_err("not a name");
+    assert_eq!(error.to_string(), "line 2: not UTF-8 text");
+}
+
+#[test]
+fn a_byte_order_mark_is_skipped() {
+    assert_eq!(assemble(b"\xEF\xBB\xBFvmxon\n"), Ok(vec![22]));
+    assert_eq!(assemble(b"\xEF\xBB\xBF"), Ok(vec![]));
+    // At the start of the text alone.
+    assert!(assemble(b"vmxon\n\xEF\xBB\xBFvmxon\n").is_err());
+    assert!(assemble(b"\xEF\xBBvmxon\n").is_err());
 }
 
 #[test]

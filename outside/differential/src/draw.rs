@@ -3,12 +3,13 @@
 use crate::buffer::Buffer;
 use crate::explain::ExplainCase;
 use crate::lookup::LookupCase;
-use crate::replay::ReplayCase;
+use crate::replay::{starts, ReplayCase};
 use crate::run::{Moment, RunCase};
 use crate::step::StepCase;
-use bridge::{FlatContext, ROW};
-use generate::Rng;
-use model::{Context, Place, LOG_LIMIT, PROGRAM_CAPABILITY, PROGRAM_WIDTH, TABLE_LIMIT};
+use bridge::FlatContext;
+use common::{LOG_LIMIT, PROGRAM_CAPABILITY, PROGRAM_WIDTH, ROW, TABLE_LIMIT};
+use generate::{start, Rng};
+use model::{Context, Place};
 
 /// Numbers near the bounds of what a place or an EPT state can be.
 pub const ODD_NUMBERS: [u64; 10] = [
@@ -26,7 +27,7 @@ pub const ODD_NUMBERS: [u64; 10] = [
 
 /// A context as numbers, with anything in the fields that are not looked at.
 pub fn flat(rng: &mut Rng, context: &Context) -> FlatContext {
-    let mut flat = FlatContext::from(context);
+    let mut flat = bridge::flat(context);
     if rng.one_in(2) {
         return flat;
     }
@@ -98,15 +99,6 @@ pub fn explain(rng: &mut Rng) -> ExplainCase {
     }
 }
 
-/// Where a run or a log starts: mostly with the program's numbers.
-fn start(rng: &mut Rng) -> (u64, u64) {
-    match rng.below(6) {
-        0 => (generate::capability(rng), PROGRAM_WIDTH),
-        1 => (PROGRAM_CAPABILITY, 35 + rng.below(19) as u64),
-        _ => (PROGRAM_CAPABILITY, PROGRAM_WIDTH),
-    }
-}
-
 /// A run of so many events, with addresses to look up at some of them.
 pub fn run(rng: &mut Rng, count: usize) -> RunCase {
     let (capability, width) = start(rng);
@@ -118,12 +110,9 @@ pub fn run(rng: &mut Rng, count: usize) -> RunCase {
 /// some hundreds of events.
 pub fn filling_run(rng: &mut Rng) -> RunCase {
     let log = generate::filling_log(rng);
-    let mut rest = &log[..];
-    let mut events = Vec::new();
-    while let Some(event) = model::replay::first_event(rest) {
-        events.push(event.to_vec());
-        rest = &rest[event.len()..];
-    }
+    let starts = starts(&log);
+    let events = starts.windows(2).map(|ends| log[ends[0]..ends[1]].to_vec());
+    let events = events.collect();
     run_of(rng, PROGRAM_CAPABILITY, PROGRAM_WIDTH, events, 100)
 }
 
@@ -167,16 +156,12 @@ pub fn replay(rng: &mut Rng, most: usize) -> ReplayCase {
     let length = rng.below(most + 1);
     let log = match rng.below(10) {
         0 => rng.bytes(length % 100),
-        1 => any_events(rng, length / 20),
+        // Damaged ones too.
+        1 => generate::events(rng, length / 20).concat(),
         _ => generate::log(rng, length),
     };
     let (capability, width) = start(rng);
     replay_of(rng, capability, width, log)
-}
-
-/// Events one after another, damaged ones too.
-fn any_events(rng: &mut Rng, count: usize) -> Vec<u8> {
-    generate::events(rng, count).concat()
 }
 
 /// A replay that fills the table; now and then longer than the program reads.
@@ -219,14 +204,7 @@ fn table_room(rng: &mut Rng) -> usize {
 
 /// The length of a buffer for rows: none, short, exact, more.
 fn rows_room(rng: &mut Rng, log: &[u8]) -> usize {
-    let mut events = 0;
-    let mut rest = log;
-    while !rest.is_empty() {
-        events += 1;
-        let length = model::replay::first_event(rest).map_or(rest.len(), <[u8]>::len);
-        rest = &rest[length..];
-    }
-    let exact = ROW * events;
+    let exact = ROW * (starts(log).len() - 1);
     match rng.below(12) {
         0 => 0,
         1 => rng.below(2 * ROW),

@@ -1,6 +1,7 @@
 //! What the model says, in the library's form.
 
-use bridge::{FlatContext, FlatReason, FlatReplayed, FlatStep, Part, ROW};
+use bridge::{FlatContext, FlatReason, FlatReplayed, FlatStep, Part};
+use common::{write_row, ROW};
 use model::{Address, Context, Reason};
 use std::mem::swap;
 use std::ops::Range;
@@ -14,7 +15,7 @@ pub fn step(context: &FlatContext, table: &[u8], event: &[u8], new: &mut [u8]) -
         length: 0,
         dropped: 0,
     };
-    let Some(known) = context.context() else {
+    let Some(known) = bridge::context(context) else {
         return refused(1);
     };
     let step = model::step(&known, table, event, new);
@@ -23,7 +24,7 @@ pub fn step(context: &FlatContext, table: &[u8], event: &[u8], new: &mut [u8]) -
     }
     FlatStep {
         answer: 0,
-        context: FlatContext::from(&step.context),
+        context: bridge::flat(&step.context),
         length: step.length,
         dropped: step.dropped,
     }
@@ -31,7 +32,7 @@ pub fn step(context: &FlatContext, table: &[u8], event: &[u8], new: &mut [u8]) -
 
 /// The answer to a lookup, and the places of all usable records.
 pub fn usable(context: &FlatContext, table: &[u8], address: Address) -> (u64, Vec<Range<usize>>) {
-    match context.context() {
+    match bridge::context(context) {
         None => (1, Vec::new()),
         Some(known) => (
             model::lookup::answer(&known, table),
@@ -53,11 +54,11 @@ pub fn part(answer: u64, usable: &[Range<usize>], k: u64) -> Part {
 
 /// A reason. A place or EPT number that stands for nothing is refused with 1.
 pub fn explain(context: &FlatContext, record: &[u8], event: &[u8]) -> FlatReason {
-    let reason = match context.context() {
+    let reason = match bridge::context(context) {
         None => Reason::Refused(1),
         Some(known) => model::explain(&known, record, event),
     };
-    FlatReason::from(reason)
+    bridge::flat_reason(reason)
 }
 
 /// A whole log: the model's steps, through the two buffers in turn, as long
@@ -73,7 +74,7 @@ pub fn replay(
     let (mut old, mut new) = (first, second);
     let mut rows = rows.chunks_exact_mut(ROW);
     let mut end = FlatReplayed {
-        context: FlatContext::from(&Context::after_reset(capability, width)),
+        context: bridge::flat(&Context::after_reset(capability, width)),
         length: 0,
         first: 1,
         count: 0,
@@ -93,17 +94,11 @@ pub fn replay(
             swap(&mut old, &mut new);
         }
         end.count += 1;
-        write_row(row, &[step.answer, step.dropped as u64, end.length as u64]);
+        write_row(row, [step.answer, step.dropped as u64, end.length as u64]);
         if known.is_none() || step.answer == 2 || step.answer == 3 {
             break;
         }
         rest = &rest[event.len()..];
     }
     end
-}
-
-fn write_row(row: &mut [u8], numbers: &[u64; 3]) {
-    for (place, number) in row.chunks_exact_mut(8).zip(numbers) {
-        place.copy_from_slice(&number.to_le_bytes());
-    }
 }

@@ -1,10 +1,11 @@
 //! Reasons of the library against the model's.
 
 use crate::case::smaller_tables;
+use crate::difference::{all_same, difference};
 use crate::expected;
-use crate::step::{all_same, context, difference, StepCase};
+use crate::step::StepCase;
 use crate::tally::Tally;
-use crate::text::bytes;
+use crate::text::{bytes, context};
 use bridge::FlatContext;
 use std::fmt;
 

@@ -1,8 +1,9 @@
 //! `fuzz [COUNT] [SEED]`: compares the library with the model.
 
-use differential::{text, work, Failure, Tally};
+use differential::{parse, work, Failure, Tally};
 use std::env;
-use std::io::Read;
+use std::fmt::Arguments;
+use std::io::{self, Read, Write};
 use std::process::ExitCode;
 use std::time::{Duration, Instant, SystemTime, UNIX_EPOCH};
 
@@ -15,29 +16,43 @@ usage: fuzz [COUNT] [SEED]
 COUNT rounds of comparisons, each of some thousand calls, from a seed (else
 from the clock). The seed is printed first. A case in which the library and
 the model differ is printed, and `fuzz --case` compares it again ('-' reads
-standard input). Exit status 1 if they differ, 2 if the arguments are wrong.";
+standard input). Exit status 1 if they differ or the output cannot be written,
+2 if the arguments are wrong.";
 
 fn main() -> ExitCode {
     let words: Vec<String> = env::args().skip(1).collect();
     let words: Vec<&str> = words.iter().map(String::as_str).collect();
-    match words[..] {
-        ["--help" | "-h" | "help"] => {
-            println!("{USAGE}");
-            ExitCode::SUCCESS
-        }
+    let ended = match words[..] {
+        ["--help" | "-h" | "help"] => print(format_args!("{USAGE}")).map(|()| ExitCode::SUCCESS),
         ["--case", file] => again(file),
         [] => fuzz(DEFAULT_COUNT, clock()),
         [count] => match number(count) {
             Some(count) => fuzz(count, clock()),
-            None => wrong(&format!("'{count}' is no count")),
+            None => Ok(wrong(&format!("'{count}' is no count"))),
         },
         [count, seed] => match (number(count), number(seed)) {
             (Some(count), Some(seed)) => fuzz(count, seed),
-            (None, _) => wrong(&format!("'{count}' is no count")),
-            (_, None) => wrong(&format!("'{seed}' is no seed")),
+            (None, _) => Ok(wrong(&format!("'{count}' is no count"))),
+            (_, None) => Ok(wrong(&format!("'{seed}' is no seed"))),
         },
-        _ => wrong("too many words"),
-    }
+        _ => Ok(wrong("too many words")),
+    };
+    ended.unwrap_or_else(|error| {
+        tell(format_args!(
+            "fuzz: standard output cannot be written: {error}"
+        ));
+        ExitCode::FAILURE
+    })
+}
+
+/// A line on standard output.
+fn print(line: Arguments) -> io::Result<()> {
+    writeln!(io::stdout(), "{line}")
+}
+
+/// A line on standard error; if that is gone there is nobody left to tell.
+fn tell(line: Arguments) {
+    let _ = writeln!(io::stderr(), "{line}");
 }
 
 /// A decimal number, or a hexadecimal one with 0x.
@@ -49,7 +64,7 @@ fn number(word: &str) -> Option<u64> {
 }
 
 fn wrong(why: &str) -> ExitCode {
-    eprintln!("fuzz: {why}\n{USAGE}");
+    tell(format_args!("fuzz: {why}\n{USAGE}"));
     ExitCode::from(2)
 }
 
@@ -58,55 +73,60 @@ fn clock() -> u64 {
     since.map_or(1, |time| time.as_micros() as u64)
 }
 
-fn fuzz(count: u64, seed: u64) -> ExitCode {
-    println!("seed {seed}");
+fn fuzz(count: u64, seed: u64) -> io::Result<ExitCode> {
+    print(format_args!("seed {seed}"))?;
     let mut tally = Tally::default();
     let mut progress = Progress::new(count);
     for number in 0..count {
         if let Err(failure) = work::round(seed, number, &mut tally) {
-            eprintln!("round {number} of seed {seed}: making the case smaller");
-            report(&failure.shrink());
-            println!("seed {seed}, round {number}");
-            return ExitCode::FAILURE;
+            tell(format_args!(
+                "round {number} of seed {seed}: making the case smaller"
+            ));
+            report(&failure.shrink())?;
+            print(format_args!("seed {seed}, round {number}"))?;
+            return Ok(ExitCode::FAILURE);
         }
         progress.show(number + 1, &tally);
     }
-    println!("{tally}");
-    println!("{count} rounds, no difference");
-    ExitCode::SUCCESS
+    print(format_args!("{tally}"))?;
+    print(format_args!("{count} rounds, no difference"))?;
+    Ok(ExitCode::SUCCESS)
 }
 
-fn report(failure: &Failure) {
-    println!("{}", failure.case);
-    println!();
-    println!("DIFFERENT: {}", failure.why);
-    println!("Put the lines from 'case' on into a file; `fuzz --case FILE` compares it again.");
+fn report(failure: &Failure) -> io::Result<()> {
+    print(format_args!(
+        "{}\n\nDIFFERENT: {}",
+        failure.case, failure.why
+    ))?;
+    print(format_args!(
+        "Put the lines from 'case' on into a file; `fuzz --case FILE` compares it again."
+    ))
 }
 
 /// Compares one case that was printed.
-fn again(file: &str) -> ExitCode {
+fn again(file: &str) -> io::Result<ExitCode> {
     let read = if file == "-" {
         let mut text = String::new();
-        std::io::stdin().read_to_string(&mut text).map(|_| text)
+        io::stdin().read_to_string(&mut text).map(|_| text)
     } else {
         std::fs::read_to_string(file)
     };
     let text = match read {
         Ok(text) => text,
-        Err(error) => return wrong(&format!("{file}: {error}")),
+        Err(error) => return Ok(wrong(&format!("{file}: {error}"))),
     };
-    let case = match text::parse(&text) {
+    let case = match parse(&text) {
         Ok(case) => case,
-        Err(why) => return wrong(&format!("{file}: {why}")),
+        Err(why) => return Ok(wrong(&format!("{file}: {why}"))),
     };
     match case.compare(&mut Tally::default()) {
         Ok(()) => {
-            println!("no difference");
-            ExitCode::SUCCESS
+            print(format_args!("no difference"))?;
+            Ok(ExitCode::SUCCESS)
         }
         Err(failure) => {
-            println!("DIFFERENT: {}", failure.why);
-            ExitCode::FAILURE
+            print(format_args!("DIFFERENT: {}", failure.why))?;
+            Ok(ExitCode::FAILURE)
         }
     }
 }
@@ -137,9 +157,9 @@ impl Progress {
         let calls = tally.calls();
         let rate = calls as f64 / seconds;
         let left = (self.count - done) as f64 * seconds / done as f64;
-        eprintln!(
+        tell(format_args!(
             "{done} of {} rounds, {calls} answers, {rate:.0} a second, {left:.0} s left",
             self.count
-        );
+        ));
     }
 }

@@ -1,21 +1,25 @@
 //! The proved library against the independent model.
 //!
 //! A case is the inputs of a step, of the lookups of one address, of an
-//! explanation, of a run or of a replay. It is compared whole: answers, contexts, numbers, and each
-//! byte of each buffer that was lent. A case in which the two differ is made
-//! smaller, if it can be, and printed as text that `fuzz --case` reads.
+//! explanation, of a run or of a replay. It is compared whole: answers,
+//! contexts, numbers, and each byte of each buffer that was lent. A case in
+//! which the two differ is made smaller, if it can be, and printed as text that
+//! `fuzz --case` reads.
 //!
 //! * [`case`], [`step`], [`lookup`], [`explain`], [`run`], [`replay`]: the cases.
 //! * [`expected`]: what the model says, in the library's form.
 //! * [`draw`], [`sweep`]: random cases, and all those near some bounds.
 //! * [`work`]: how many of each make up a round.
+//! * [`text`], [`parse()`]: a case as text and back.
 
 pub mod buffer;
 pub mod case;
+mod difference;
 pub mod draw;
 pub mod expected;
 pub mod explain;
 pub mod lookup;
+mod parse;
 pub mod replay;
 pub mod run;
 pub mod step;
@@ -25,4 +29,5 @@ pub mod text;
 pub mod work;
 
 pub use case::{Case, Failure};
+pub use parse::parse;
 pub use tally::Tally;

@@ -1,10 +1,10 @@
 //! Lookups of the library against the model's, for all k.
 
 use crate::case::smaller_tables;
+use crate::difference::{all_same, difference};
 use crate::expected;
-use crate::step::{all_same, context, difference};
 use crate::tally::Tally;
-use crate::text::{bytes, numbers};
+use crate::text::{address, bytes, context};
 use bridge::FlatContext;
 use model::Address;
 use std::fmt;
@@ -69,13 +69,5 @@ impl fmt::Display for LookupCase {
         writeln!(f, "{}", context(&self.context))?;
         writeln!(f, "{}", bytes("table", &self.table))?;
         write!(f, "{}", address(&self.address))
-    }
-}
-
-/// An address as a line of text.
-pub fn address(address: &Address) -> String {
-    match address {
-        Address::Linear(number) => numbers("linear", &[*number]),
-        Address::GuestPhysical(number) => numbers("guest-physical", &[*number]),
     }
 }

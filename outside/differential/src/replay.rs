@@ -2,12 +2,12 @@
 
 use crate::buffer::Buffer;
 use crate::case::parts;
+use crate::difference::{all_same, context_differences, difference};
 use crate::expected;
-use crate::step::{all_same, buffer, context_differences, difference};
 use crate::tally::Tally;
-use crate::text::{bytes, numbers};
-use bridge::{lines, FlatReplayed, ROW};
-use model::{LOG_LIMIT, PROGRAM_CAPABILITY, PROGRAM_WIDTH, TABLE_LIMIT};
+use crate::text::{buffer, bytes, numbers};
+use bridge::{lines, FlatReplayed};
+use common::{LOG_LIMIT, PROGRAM_CAPABILITY, PROGRAM_WIDTH, ROW, TABLE_LIMIT};
 use std::fmt;
 
 /// The inputs of a replay.
@@ -101,8 +101,9 @@ fn same_end(got: &FlatReplayed, due: &FlatReplayed) -> Result<(), String> {
     all_same(differences)
 }
 
-/// Where the events of a log start, and its end.
-fn starts(log: &[u8]) -> Vec<usize> {
+/// Where the events of a log start, and its end. From an unknown kind or a cut
+/// record on all is one event.
+pub fn starts(log: &[u8]) -> Vec<usize> {
     let mut starts = vec![0];
     let mut at = 0;
     while at < log.len() {

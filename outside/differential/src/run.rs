@@ -4,10 +4,10 @@
 use crate::buffer::{Buffer, Lent};
 use crate::case::parts;
 use crate::expected;
-use crate::lookup::{address, LookupCase};
-use crate::step::{buffer, same_step};
+use crate::lookup::LookupCase;
+use crate::step::same_step;
 use crate::tally::Tally;
-use crate::text::{bytes, numbers};
+use crate::text::{address, buffer, bytes, numbers};
 use bridge::{FlatContext, FlatStep};
 use generate::{removal, Rng};
 use model::book::Book;
@@ -49,7 +49,7 @@ impl Side {
     fn new(case: &RunCase, buffers: &[Buffer]) -> Side {
         let start = Context::after_reset(case.capability, case.width);
         Side {
-            context: FlatContext::from(&start),
+            context: bridge::flat(&start),
             buffers: [buffers[0].lend(), buffers[1].lend()],
             now: 0,
             length: 0,
@@ -206,7 +206,7 @@ fn by_the_book(book: &mut Book, event: &[u8], step: &FlatStep, table: &[u8]) -> 
     if (step.answer, step.dropped) != (verdict.answer, verdict.dropped) {
         return Err(format!("the book says {verdict:?}, the library {step:x?}"));
     }
-    if step.context != FlatContext::from(book.context()) {
+    if step.context != bridge::flat(book.context()) {
         return Err(format!(
             "the book's context is {:x?}\nand the library's {:x?}",
             book.context(),

@@ -2,9 +2,10 @@
 
 use crate::buffer::Buffer;
 use crate::case::smaller_tables;
+use crate::difference::{all_same, context_differences, difference};
 use crate::expected;
 use crate::tally::Tally;
-use crate::text::{bytes, numbers};
+use crate::text::{buffer, bytes, context};
 use bridge::{FlatContext, FlatStep};
 use std::fmt;
 
@@ -65,26 +66,6 @@ impl fmt::Display for StepCase {
     }
 }
 
-/// A context as a line of text.
-pub fn context(c: &FlatContext) -> String {
-    let fields = [
-        c.capability,
-        c.width,
-        c.pcid,
-        c.cpl,
-        c.place,
-        c.vpid,
-        c.ept,
-        c.ep4ta,
-    ];
-    numbers("context", &fields)
-}
-
-/// A buffer as a line of text.
-pub fn buffer(name: &str, buffer: &Buffer) -> String {
-    numbers(name, &[buffer.length as u64, buffer.fill])
-}
-
 /// Compares what two steps report.
 pub fn same_step(got: &FlatStep, due: &FlatStep) -> Result<(), String> {
     let numbers = [
@@ -95,36 +76,4 @@ pub fn same_step(got: &FlatStep, due: &FlatStep) -> Result<(), String> {
     let mut differences: Vec<String> = numbers.into_iter().flatten().collect();
     differences.extend(context_differences(&got.context, &due.context));
     all_same(differences)
-}
-
-/// The fields in which two contexts differ.
-pub fn context_differences(got: &FlatContext, due: &FlatContext) -> Vec<String> {
-    let fields = [
-        ("capability", got.capability, due.capability),
-        ("width", got.width, due.width),
-        ("PCID", got.pcid, due.pcid),
-        ("CPL", got.cpl, due.cpl),
-        ("place", got.place, due.place),
-        ("VPID", got.vpid, due.vpid),
-        ("EPT", got.ept, due.ept),
-        ("EP4TA", got.ep4ta, due.ep4ta),
-    ];
-    let differences = fields
-        .iter()
-        .filter(|(_, got, due)| got != due)
-        .map(|(name, got, due)| format!("{name} is {got:#x} and should be {due:#x}"));
-    differences.collect()
-}
-
-/// What to say of a number that is not the one due.
-pub fn difference(name: &str, got: u64, due: u64) -> Option<String> {
-    (got != due).then(|| format!("{name} is {got} and should be {due}"))
-}
-
-/// An error if there is any difference.
-pub fn all_same(differences: Vec<String>) -> Result<(), String> {
-    if differences.is_empty() {
-        return Ok(());
-    }
-    Err(differences.join("; "))
 }

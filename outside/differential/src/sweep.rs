@@ -5,15 +5,11 @@ use crate::explain::ExplainCase;
 use crate::lookup::LookupCase;
 use crate::replay::ReplayCase;
 use crate::step::StepCase;
-use bridge::{FlatContext, ROW};
-use generate::{Rng, KINDS};
-use model::{Address, Context, Place, PROGRAM_CAPABILITY, PROGRAM_WIDTH, TABLE_LIMIT};
-
-/// The capability bits that document 01 reads.
-const BITS: [u32; 12] = [6, 8, 14, 20, 21, 25, 26, 32, 40, 41, 42, 43];
-
-/// The page numbers end here.
-const PAGES: u64 = 1 << 36;
+use bridge::FlatContext;
+use common::{canonical, encode, is_mapping_kind, CAPABILITY_BITS, KINDS, PAGES};
+use common::{PROGRAM_CAPABILITY, PROGRAM_WIDTH, ROW, TABLE_LIMIT};
+use generate::Rng;
+use model::{Address, Context, Place};
 
 fn step(rng: &mut Rng, context: FlatContext, table: &[u8], event: &[u8]) -> StepCase {
     let more = rng.below(64);
@@ -37,7 +33,7 @@ pub fn near_events(rng: &mut Rng) -> Vec<StepCase> {
         for near in generate::near_events(&event) {
             let context = flat(rng, &context);
             cases.push(step(rng, context, &table, &near));
-            if kind <= 6 {
+            if is_mapping_kind(kind) {
                 let event = generate::event(rng, &Context::program());
                 cases.push(step(rng, context, &[&near, &table[..]].concat(), &event));
                 cases.push(step(rng, context, &[&table[..], &near].concat(), &[25]));
@@ -85,7 +81,7 @@ fn numbered(context: &Context, place: u64, ept: u64) -> FlatContext {
         ept,
         vpid: 5,
         ep4ta: 0x123_4567,
-        ..FlatContext::from(context)
+        ..bridge::flat(context)
     }
 }
 
@@ -93,7 +89,7 @@ fn numbered(context: &Context, place: u64, ept: u64) -> FlatContext {
 /// none, and one missing or alone.
 pub fn matrix(rng: &mut Rng) -> Vec<StepCase> {
     let mut capabilities = vec![PROGRAM_CAPABILITY, 0, u64::MAX];
-    for bit in BITS {
+    for bit in CAPABILITY_BITS {
         capabilities.push(PROGRAM_CAPABILITY & !(1 << bit));
         capabilities.push(1 << bit);
     }
@@ -176,11 +172,6 @@ fn edges(table: &[u8]) -> Vec<u64> {
     edges
 }
 
-/// The address with bits 63 to 48 like bit 47.
-fn canonical(address: u64) -> u64 {
-    (((address << 16) as i64) >> 16) as u64
-}
-
 /// Events with an address, at the ends of each record.
 pub fn edge_events(rng: &mut Rng) -> Vec<StepCase> {
     edge_events_of(rng, 6)
@@ -198,12 +189,11 @@ fn edge_events_of(rng: &mut Rng, count: usize) -> Vec<StepCase> {
     let vpids: Vec<u64> = records.iter().filter_map(|(_, m)| m.vpid).collect();
     let mut cases = Vec::new();
     for edge in edges(&table) {
-        let linear = canonical(edge).to_le_bytes();
-        let vpid = vpids.first().map_or(5, |_| rng.pick(&vpids)).to_le_bytes();
-        let invvpid = [&[16], &[0; 8][..], &vpid, &linear].concat();
-        let invlpg = [&[18], &linear[..]].concat();
-        let guest_physical = (edge % (PAGES << 12)).to_le_bytes();
-        let violation = [&[19], &guest_physical[..], &[1], &linear].concat();
+        let linear = canonical(edge);
+        let vpid = vpids.first().map_or(5, |_| rng.pick(&vpids));
+        let invvpid = encode(16, &[0, vpid, linear]);
+        let invlpg = encode(18, &[linear]);
+        let violation = encode(19, &[edge % (PAGES << 12), 1, linear]);
         let root = Context {
             place: Place::Root,
             ..context

@@ -49,11 +49,6 @@ impl Tally {
         let reasons: u64 = self.reasons.iter().sum();
         lookups + reasons + all.iter().flat_map(|counts| counts.iter()).sum::<u64>()
     }
-
-    /// How often an answer was given by a step, alone or in a run.
-    pub fn reached(&self, answer: usize) -> u64 {
-        self.steps[answer] + self.run_steps[answer] + self.rows[answer]
-    }
 }
 
 impl fmt::Display for Tally {

@@ -3,18 +3,13 @@
 //! number that its pattern starts from.
 
 use crate::buffer::Buffer;
-use crate::case::Case;
-use crate::explain::ExplainCase;
-use crate::lookup::LookupCase;
-use crate::replay::ReplayCase;
-use crate::run::{Moment, RunCase};
-use crate::step::StepCase;
 use bridge::FlatContext;
+use common::hex;
 use model::Address;
 
 /// A line of bytes.
 pub fn bytes(name: &str, bytes: &[u8]) -> String {
-    format!("{name} {}", generate::hex(bytes))
+    format!("{name} {}", hex(bytes))
 }
 
 /// A line of numbers.
@@ -23,190 +18,30 @@ pub fn numbers(name: &str, numbers: &[u64]) -> String {
     format!("{name} {}", words.join(" "))
 }
 
-/// Reads a case back. Lines before the one that starts with `case` are
-/// skipped, and so are those after its end.
-pub fn parse(text: &str) -> Result<Case, String> {
-    let mut lines = Lines::new(text);
-    while lines.peek().is_some_and(|(name, _)| name != "case") {
-        lines.next += 1;
-    }
-    match lines.take("case")? {
-        "step" => lines.step().map(Case::Step),
-        "lookup" => lines.lookup().map(Case::Lookup),
-        "explain" => lines.explain().map(Case::Explain),
-        "run" => lines.run().map(Case::Run),
-        "replay" => lines.replay().map(Case::Replay),
-        other => Err(format!("no case '{other}'")),
-    }
+/// A context as a line.
+pub fn context(c: &FlatContext) -> String {
+    let fields = [
+        c.capability,
+        c.width,
+        c.pcid,
+        c.cpl,
+        c.place,
+        c.vpid,
+        c.ept,
+        c.ep4ta,
+    ];
+    numbers("context", &fields)
 }
 
-/// The lines of a text, each as its first word and the rest.
-struct Lines<'a> {
-    lines: Vec<(&'a str, &'a str)>,
-    next: usize,
+/// A buffer as a line.
+pub fn buffer(name: &str, buffer: &Buffer) -> String {
+    numbers(name, &[buffer.length as u64, buffer.fill])
 }
 
-impl<'a> Lines<'a> {
-    fn new(text: &'a str) -> Lines<'a> {
-        let split = |line: &'a str| {
-            let line = line.trim();
-            match line.split_once(' ') {
-                Some((name, rest)) => (name, rest.trim()),
-                None => (line, ""),
-            }
-        };
-        let lines = text.lines().map(split);
-        Lines {
-            lines: lines.filter(|(name, _)| !name.is_empty()).collect(),
-            next: 0,
-        }
-    }
-
-    fn peek(&self) -> Option<(&'a str, &'a str)> {
-        self.lines.get(self.next).copied()
-    }
-
-    /// The rest of the next line, which must have this name.
-    fn take(&mut self, wanted: &str) -> Result<&'a str, String> {
-        match self.peek() {
-            Some((name, rest)) if name == wanted => {
-                self.next += 1;
-                Ok(rest)
-            }
-            Some((name, _)) => Err(format!("'{name}' where '{wanted}' should be")),
-            None => Err(format!("no line '{wanted}'")),
-        }
-    }
-
-    fn bytes(&mut self, name: &str) -> Result<Vec<u8>, String> {
-        let byte = |word: &str| {
-            u8::from_str_radix(word, 16).map_err(|_| format!("{name}: '{word}' is no byte"))
-        };
-        self.take(name)?.split_whitespace().map(byte).collect()
-    }
-
-    fn numbers<const N: usize>(&mut self, name: &str) -> Result<[u64; N], String> {
-        let words: Vec<&str> = self.take(name)?.split_whitespace().collect();
-        if words.len() != N {
-            return Err(format!("{name}: {} numbers and not {N}", words.len()));
-        }
-        let mut numbers = [0; N];
-        for (number, word) in numbers.iter_mut().zip(words) {
-            let digits = word.strip_prefix("0x").unwrap_or("");
-            *number = u64::from_str_radix(digits, 16)
-                .map_err(|_| format!("{name}: '{word}' is no number with 0x"))?;
-        }
-        Ok(numbers)
-    }
-
-    fn context(&mut self) -> Result<FlatContext, String> {
-        let [capability, width, pcid, cpl, place, vpid, ept, ep4ta] = self.numbers("context")?;
-        Ok(FlatContext {
-            capability,
-            width,
-            pcid,
-            cpl,
-            place,
-            vpid,
-            ept,
-            ep4ta,
-        })
-    }
-
-    fn buffer(&mut self, name: &str) -> Result<Buffer, String> {
-        let [length, fill] = self.numbers(name)?;
-        if length > 1 << 32 {
-            return Err(format!("{name}: a buffer of {length:#x} bytes"));
-        }
-        let length = length as usize;
-        Ok(Buffer { length, fill })
-    }
-
-    /// The address on the next line; None if there is another thing.
-    fn address(&mut self) -> Result<Option<Address>, String> {
-        match self.peek() {
-            Some(("linear", _)) => {
-                let [number] = self.numbers("linear")?;
-                Ok(Some(Address::Linear(number)))
-            }
-            Some(("guest-physical", _)) => {
-                let [number] = self.numbers("guest-physical")?;
-                Ok(Some(Address::GuestPhysical(number)))
-            }
-            _ => Ok(None),
-        }
-    }
-
-    fn step(&mut self) -> Result<StepCase, String> {
-        Ok(StepCase {
-            context: self.context()?,
-            table: self.bytes("table")?,
-            event: self.bytes("event")?,
-            new: self.buffer("new")?,
-        })
-    }
-
-    fn lookup(&mut self) -> Result<LookupCase, String> {
-        Ok(LookupCase {
-            context: self.context()?,
-            table: self.bytes("table")?,
-            address: self
-                .address()?
-                .ok_or("no line 'linear' or 'guest-physical'")?,
-        })
-    }
-
-    fn explain(&mut self) -> Result<ExplainCase, String> {
-        Ok(ExplainCase {
-            context: self.context()?,
-            record: self.bytes("record")?,
-            event: self.bytes("event")?,
-        })
-    }
-
-    fn run(&mut self) -> Result<RunCase, String> {
-        let [capability, width] = self.numbers("start")?;
-        let mut buffer = || self.buffer("buffer");
-        let buffers = [buffer()?, buffer()?, buffer()?, buffer()?];
-        let mut moments = Vec::new();
-        while self.peek().is_some_and(|(name, _)| name == "removal") {
-            moments.push(self.moment()?);
-        }
-        self.take("end")?;
-        Ok(RunCase {
-            capability,
-            width,
-            buffers,
-            moments,
-        })
-    }
-
-    fn moment(&mut self) -> Result<Moment, String> {
-        let [removal] = self.numbers("removal")?;
-        let mut addresses = Vec::new();
-        while let Some(address) = self.address()? {
-            addresses.push(address);
-        }
-        let event = match self.peek() {
-            Some(("event", _)) => Some(self.bytes("event")?),
-            _ => None,
-        };
-        Ok(Moment {
-            removal,
-            addresses,
-            event,
-        })
-    }
-
-    fn replay(&mut self) -> Result<ReplayCase, String> {
-        let [capability, width] = self.numbers("start")?;
-        Ok(ReplayCase {
-            capability,
-            width,
-            log: self.bytes("log")?,
-            first: self.buffer("first")?,
-            second: self.buffer("second")?,
-            rows: self.buffer("rows")?,
-        })
+/// An address as a line.
+pub fn address(address: &Address) -> String {
+    match address {
+        Address::Linear(number) => numbers("linear", &[*number]),
+        Address::GuestPhysical(number) => numbers("guest-physical", &[*number]),
     }
 }

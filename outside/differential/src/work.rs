@@ -24,7 +24,7 @@ pub fn steps(rng: &mut Rng, tally: &mut Tally) -> Result<(), Failure> {
 }
 
 /// Events, contexts, capabilities, rooms and addresses at their bounds.
-pub fn near_steps(rng: &mut Rng, tally: &mut Tally) -> Result<(), Failure> {
+fn near_steps(rng: &mut Rng, tally: &mut Tally) -> Result<(), Failure> {
     let sweep = rng.pick(&[
         sweep::near_events as fn(&mut Rng) -> _,
         sweep::near_contexts,
@@ -76,7 +76,7 @@ pub fn replays(rng: &mut Rng, tally: &mut Tally) -> Result<(), Failure> {
 }
 
 /// A run or a replay that fills the table.
-pub fn filling(rng: &mut Rng, tally: &mut Tally) -> Result<(), Failure> {
+fn filling(rng: &mut Rng, tally: &mut Tally) -> Result<(), Failure> {
     if rng.one_in(2) {
         Case::Run(draw::filling_run(rng)).compare(tally)
     } else {
@@ -85,12 +85,12 @@ pub fn filling(rng: &mut Rng, tally: &mut Tally) -> Result<(), Failure> {
 }
 
 /// The work of one round.
-pub const ROUND: [Work; 9] = [
+const ROUND: [Work; 9] = [
     steps, near_steps, lookups, steps, runs, replays, steps, lookups, explains,
 ];
 
 /// Once in so many rounds a table is filled.
-pub const FILLING: u64 = 100;
+const FILLING: u64 = 100;
 
 /// One round of work, drawn from a seed and the round's number, so that a
 /// round can be drawn again by itself.

@@ -1,6 +1,7 @@
 //! A quick set of comparisons from fixed seeds. A failure prints the case.
 
 use differential::explain::ExplainCase;
+use differential::step::StepCase;
 use differential::work::{self, Work};
 use differential::{draw, sweep, Case, Failure, Tally};
 use generate::Rng;
@@ -26,10 +27,18 @@ fn passed(result: Result<(), Failure>) {
     }
 }
 
-fn passed_all(cases: Vec<Case>) {
-    for case in cases {
-        passed(case.compare(&mut Tally::default()));
+/// Compares the cases of a sweep over steps, drawn so many times.
+fn sweep_steps(times: usize, sweep: fn(&mut Rng) -> Vec<StepCase>) -> Tally {
+    println!("seed {SEED}");
+    let mut rng = Rng::new(SEED);
+    let mut tally = Tally::default();
+    for _ in 0..times {
+        for case in sweep(&mut rng) {
+            passed(Case::Step(case).compare(&mut tally));
+        }
     }
+    println!("{tally}");
+    tally
 }
 
 #[test]
@@ -41,62 +50,34 @@ fn steps_of_every_answer() {
 
 #[test]
 fn every_event_near_a_bound() {
-    let mut rng = Rng::new(SEED);
-    for _ in 0..20 {
-        passed_all(
-            sweep::near_events(&mut rng)
-                .into_iter()
-                .map(Case::Step)
-                .collect(),
-        );
-    }
+    let tally = sweep_steps(20, sweep::near_events);
+    assert!(tally.steps[0] > 1_000 && tally.steps[3] > 1_000 && tally.steps[4] > 1_000);
 }
 
 #[test]
 fn every_context_near_a_bound() {
-    let mut rng = Rng::new(SEED);
-    for _ in 0..20 {
-        passed_all(
-            sweep::near_contexts(&mut rng)
-                .into_iter()
-                .map(Case::Step)
-                .collect(),
-        );
-    }
+    let tally = sweep_steps(20, sweep::near_contexts);
+    assert!(tally.steps[0] > 1_000 && tally.steps[1] > 1_000);
 }
 
 #[test]
 fn every_kind_in_every_place() {
-    let mut rng = Rng::new(SEED);
-    for _ in 0..4 {
-        passed_all(
-            sweep::matrix(&mut rng)
-                .into_iter()
-                .map(Case::Step)
-                .collect(),
-        );
+    let tally = sweep_steps(4, sweep::matrix);
+    for answer in [0, 5, 6, 7, 8, 9, 10, 11] {
+        assert!(tally.steps[answer] > 50, "answer {answer}");
     }
 }
 
 #[test]
 fn new_buffers_of_every_length() {
-    let mut rng = Rng::new(SEED);
-    for _ in 0..300 {
-        passed_all(sweep::rooms(&mut rng).into_iter().map(Case::Step).collect());
-    }
+    let tally = sweep_steps(300, sweep::rooms);
+    assert!(tally.steps[0] > 1_000 && tally.steps[12] > 1_000);
 }
 
 #[test]
 fn addresses_at_the_ends_of_records() {
-    let mut rng = Rng::new(SEED);
-    for _ in 0..300 {
-        passed_all(
-            sweep::edge_events(&mut rng)
-                .into_iter()
-                .map(Case::Step)
-                .collect(),
-        );
-    }
+    let tally = sweep_steps(300, sweep::edge_events);
+    assert!(tally.steps[0] > 1_000 && tally.dropping > 1_000);
 }
 
 #[test]
@@ -123,10 +104,13 @@ fn explanations_of_every_reason() {
 #[test]
 fn explanations_of_whole_tables() {
     let mut rng = Rng::new(SEED);
+    let mut tally = Tally::default();
     for _ in 0..20_000 {
         let case = ExplainCase::from(draw::step(&mut rng));
-        passed(Case::Explain(case).compare(&mut Tally::default()));
+        passed(Case::Explain(case).compare(&mut tally));
     }
+    // Most tables are not one record.
+    assert!(tally.refusals[3] > 10_000 && tally.reasons[10] > 100);
 }
 
 #[test]

@@ -1,7 +1,6 @@
 //! A printed case is read back, and the program compares it again.
 
-use differential::text::parse;
-use differential::{draw, Case};
+use differential::{draw, parse, Case};
 use generate::Rng;
 use std::io::Write;
 use std::process::{Command, Output, Stdio};

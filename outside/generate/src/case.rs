@@ -1,12 +1,13 @@
-//! The inputs of one step and of one lookup.
+//! The inputs of one step.
 
-use crate::context::{any_context, context, near_context};
-use crate::event::{any_event, damage, event, event_of_kind, fitting};
-use crate::layout::{near, near_field};
+use crate::aim::aimed;
+use crate::context::near_context;
+use crate::damage::spoiled;
 use crate::pool;
-use crate::record::{any_table, full_table, long_table, page_of_some, spoil_table, table};
-use crate::{hex, Rng};
-use model::{Address, Context, Place, PROGRAM_CAPABILITY, PROGRAM_WIDTH, TABLE_LIMIT};
+use crate::table::{any_table, full_table, long_table, page_of_some, spoil_table, table};
+use crate::Rng;
+use common::{hex, length, set_field, PAGES, TABLE_LIMIT};
+use model::Context;
 use std::fmt;
 
 /// The inputs of one step. `new` is the new buffer before it, full of random
@@ -25,23 +26,6 @@ impl fmt::Display for Case {
         writeln!(f, "table ({}): {}", self.table.len(), hex(&self.table))?;
         writeln!(f, "event ({}): {}", self.event.len(), hex(&self.event))?;
         write!(f, "new buffer: {} bytes", self.new.len())
-    }
-}
-
-/// The inputs of one lookup.
-#[derive(Clone, Debug)]
-pub struct Query {
-    pub context: Context,
-    pub table: Vec<u8>,
-    pub address: Address,
-    pub k: u64,
-}
-
-impl fmt::Display for Query {
-    fn fmt(&self, f: &mut fmt::Formatter) -> fmt::Result {
-        writeln!(f, "context: {:x?}", self.context)?;
-        writeln!(f, "table ({}): {}", self.table.len(), hex(&self.table))?;
-        write!(f, "address: {:x?}, k: {}", self.address, self.k)
     }
 }
 
@@ -97,32 +81,20 @@ pub fn case(rng: &mut Rng) -> Case {
     }
 }
 
-/// Gives a valid INVVPID, INVLPG or EPT violation the page of some record.
+/// Gives a whole INVVPID, INVLPG or EPT violation the page of some record.
 fn aim_at_some_record(rng: &mut Rng, table: &[u8], event: &mut [u8]) {
     let Some(page) = page_of_some(rng, table) else {
         return;
     };
-    let linear = pool::canonical_of(page & ((1 << 36) - 1), 0x9AB).to_le_bytes();
-    match (event.first(), event.len()) {
-        (Some(16), 25) => event[17..].copy_from_slice(&linear),
-        (Some(18), 9) => event[1..].copy_from_slice(&linear),
-        (Some(19), 18) if rng.one_in(2) => event[10..].copy_from_slice(&linear),
-        (Some(19), 18) => {
-            event[1..7].copy_from_slice(&linear[..6]);
-        }
+    let address = pool::canonical_of(page, 0x9AB);
+    let whole = |kind: &&u8| length(**kind) == Some(event.len());
+    match event.first().filter(whole) {
+        Some(16) => set_field(event, 2, address),
+        Some(18) => set_field(event, 0, address),
+        Some(19) if rng.one_in(2) => set_field(event, 2, address),
+        Some(19) => set_field(event, 0, address % (PAGES << 12)),
         _ => {}
     }
-}
-
-/// An event damaged, or with one field changed.
-pub fn spoiled(rng: &mut Rng, event: &[u8]) -> Vec<u8> {
-    let mut bytes = event.to_vec();
-    if bytes.len() > 1 && rng.one_in(2) {
-        bytes = near(rng, &bytes);
-    } else {
-        damage(rng, &mut bytes);
-    }
-    bytes
 }
 
 /// A table so full that a creation has just room or just none.
@@ -151,163 +123,5 @@ fn room_length(rng: &mut Rng, room: Room, table: usize, event: usize) -> usize {
             4 => TABLE_LIMIT,
             _ => 0,
         },
-    }
-}
-
-/// A context and a valid event on which the answer aimed at is likely.
-pub fn aimed(rng: &mut Rng, aim: usize) -> (Context, Vec<u8>) {
-    match aim {
-        5 => undefined(rng),
-        6 => {
-            let context = guest(rng);
-            let kind = rng.pick(&[16, 17, 20, 22, 23]);
-            let event = event_of_kind(rng, &context, kind);
-            (context, event)
-        }
-        7 => {
-            let mut context = context(rng);
-            context.cpl = 1 + rng.below(3) as u64;
-            let kind = rng.pick(&[16, 17, 18, 18, 20, 22, 23]);
-            let event = event_of_kind(rng, &context, kind);
-            (context, event)
-        }
-        8 => {
-            let context = root(rng);
-            let kind = rng.pick(&[16, 17]);
-            let event = event_of_kind(rng, &context, kind);
-            (context, near(rng, &event))
-        }
-        9 => {
-            let mut context = context(rng);
-            context.cpl = 0;
-            let kind = rng.pick(&[19, 21, 22]);
-            let event = event_of_kind(rng, &context, kind);
-            (context, event)
-        }
-        10 => {
-            let context = root(rng);
-            let event = bad_entry(rng, &context);
-            (context, event)
-        }
-        11 => {
-            let context = context(rng);
-            let kind = 1 + rng.below(6) as u8;
-            let event = event_of_kind(rng, &context, kind);
-            (context, event)
-        }
-        13 => {
-            let context = any_context(rng);
-            let event = any_event(rng, &context);
-            (context, event)
-        }
-        14 => {
-            let context = context(rng);
-            let event = event(rng, &context);
-            (context, event)
-        }
-        15 | 16 => dropping(rng),
-        _ => fitted(rng),
-    }
-}
-
-/// An entry with its VPID or its EPTP at a bound, or any field.
-fn bad_entry(rng: &mut Rng, context: &Context) -> Vec<u8> {
-    let mut event = event_of_kind(rng, context, 20);
-    match rng.below(6) {
-        0 => near(rng, &event),
-        1 | 2 => {
-            event[1] = 1;
-            near_field(rng, &event, 1)
-        }
-        _ => {
-            event[4] = 1;
-            near_field(rng, &event, 3)
-        }
-    }
-}
-
-/// An event that has a scope, in a context in which it should be accepted.
-pub fn dropping(rng: &mut Rng) -> (Context, Vec<u8>) {
-    let kind = rng.pick(&[16, 16, 17, 17, 18, 18, 19, 19, 20, 21, 25]);
-    let mut context = match kind {
-        16 | 17 | 20 => root(rng),
-        18 | 25 => context(rng),
-        _ => guest(rng),
-    };
-    if kind == 19 {
-        let vpid = pool::vpid(rng);
-        let ept = Some(pool::ep4ta(rng));
-        context.place = Place::Guest { vpid, ept };
-    }
-    context.cpl = 0;
-    if !rng.one_in(8) {
-        context.capability = PROGRAM_CAPABILITY;
-        context.width = PROGRAM_WIDTH;
-    }
-    let event = event_of_kind(rng, &context, kind);
-    (context, event)
-}
-
-/// A context and an event that should be accepted in it.
-fn fitted(rng: &mut Rng) -> (Context, Vec<u8>) {
-    let mut context = context(rng);
-    if !rng.one_in(8) {
-        context.capability = PROGRAM_CAPABILITY;
-        context.width = PROGRAM_WIDTH;
-    }
-    let (event, _) = fitting(rng, &context);
-    (context, event)
-}
-
-fn undefined(rng: &mut Rng) -> (Context, Vec<u8>) {
-    let mut context = context(rng);
-    let kind = rng.pick(&[16, 17, 20, 23]);
-    if kind >= 20 || rng.one_in(2) {
-        context.place = Place::Outside;
-    } else {
-        context.capability &= !(1 << 32 | 1 << 20);
-    }
-    let event = event_of_kind(rng, &context, kind);
-    (context, event)
-}
-
-fn root(rng: &mut Rng) -> Context {
-    Context {
-        cpl: 0,
-        place: Place::Root,
-        ..context(rng)
-    }
-}
-
-fn guest(rng: &mut Rng) -> Context {
-    let vpid = pool::vpid(rng);
-    let ept = rng.pick(&[None, Some(0x123_4567)]);
-    Context {
-        place: Place::Guest { vpid, ept },
-        ..context(rng)
-    }
-}
-
-/// The inputs of one lookup. Mostly the table is valid and the address is
-/// one that some record covers.
-pub fn query(rng: &mut Rng) -> Query {
-    let context = any_context(rng);
-    let table = if rng.one_in(100) {
-        long_table(rng, &context)
-    } else {
-        any_table(rng, &context)
-    };
-    let address = match page_of_some(rng, &table) {
-        Some(page) if rng.one_in(2) => match rng.below(3) {
-            0 => Address::GuestPhysical(page << 12),
-            _ => Address::Linear(pool::canonical_of(page, 0x9AB)),
-        },
-        _ => pool::address(rng),
-    };
-    Query {
-        context,
-        table,
-        address,
-        k: rng.pick(&[0, 0, 0, 1, 1, 2, 3, 5, 1 << 32, u64::MAX]),
     }
 }

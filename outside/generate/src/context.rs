@@ -2,19 +2,17 @@
 
 use crate::pool;
 use crate::Rng;
-use model::{Context, Place, PROGRAM_CAPABILITY, PROGRAM_WIDTH};
-
-/// The capability bits that document 01 reads.
-const BITS: [u32; 12] = [6, 8, 14, 20, 21, 25, 26, 32, 40, 41, 42, 43];
+use common::{CAPABILITY_BITS, PROGRAM_CAPABILITY, PROGRAM_WIDTH};
+use model::{Context, Place};
 
 /// The program's capability, often with one bit changed.
 pub fn capability(rng: &mut Rng) -> u64 {
     match rng.below(16) {
         0..=9 => PROGRAM_CAPABILITY,
-        10..=12 => PROGRAM_CAPABILITY ^ 1 << rng.pick(&BITS),
+        10..=12 => PROGRAM_CAPABILITY ^ 1 << rng.pick(&CAPABILITY_BITS),
         13 => rng.number(),
-        14 => u64::MAX ^ 1 << rng.pick(&BITS),
-        _ => 1 << rng.pick(&BITS),
+        14 => u64::MAX ^ 1 << rng.pick(&CAPABILITY_BITS),
+        _ => 1 << rng.pick(&CAPABILITY_BITS),
     }
 }
 

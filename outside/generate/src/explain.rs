@@ -1,13 +1,15 @@
 //! The inputs of one explanation.
 
-use crate::case::{aimed, dropping, spoiled};
+use crate::aim::{aimed, dropping};
+use crate::bounds::near;
 use crate::context::near_context;
-use crate::event::{damage, good_invvpid};
-use crate::layout::near;
+use crate::damage::{damage, spoiled};
+use crate::event::good_invvpid;
 use crate::pool;
 use crate::record::{current, record, set_page, tagged};
-use crate::{hex, Rng};
-use model::{Context, TABLE_LIMIT};
+use crate::Rng;
+use common::{field, hex, put, set_field, TABLE_LIMIT};
+use model::Context;
 use std::fmt;
 
 /// The inputs of one explanation.
@@ -61,19 +63,10 @@ fn accepted(rng: &mut Rng) -> (Context, Vec<u8>) {
     if event[0] == 16 && rng.one_in(2) {
         event = good_invvpid(rng);
         if rng.one_in(3) {
-            event[1] = 3;
+            set_field(&mut event, 0, 3);
         }
     }
     (context, event)
-}
-
-/// A number of so many bytes in an event; 0 if the event is cut.
-fn number(event: &[u8], at: usize, count: usize) -> u64 {
-    let mut word = [0; 8];
-    if let Some(bytes) = event.get(at..at + count) {
-        word[..count].copy_from_slice(bytes);
-    }
-    u64::from_le_bytes(word)
 }
 
 /// A valid record with the tags and the page that the event names, or that
@@ -87,15 +80,17 @@ fn near_scope(rng: &mut Rng, context: &Context, event: &[u8]) -> Vec<u8> {
     let mut kind = rng.pick(kinds);
     let mut tags = current(context);
     let mut page = pool::page(rng);
+    // 0 if the event is cut.
+    let number = |nth| field(event, nth).unwrap_or(0);
     match event.first() {
         Some(16) => {
-            tags.vpid = number(event, 9, 2);
-            page = number(event, 17, 8) >> 12;
+            tags.vpid = number(1) % (1 << 16);
+            page = number(2) >> 12;
         }
-        Some(17) => tags.ept = Some(number(event, 9, 8) >> 12),
-        Some(18) => page = number(event, 1, 8) >> 12,
-        Some(19) if kind == 2 || kind == 5 => page = number(event, 1, 8) >> 12,
-        Some(19) => page = number(event, 10, 8) >> 12,
+        Some(17) => tags.ept = Some(number(1) >> 12),
+        Some(18) => page = number(0) >> 12,
+        Some(19) if kind == 2 || kind == 5 => page = number(0) >> 12,
+        Some(19) => page = number(2) >> 12,
         Some(20 | 21) => tags.vpid = 0,
         _ => {}
     }
@@ -121,7 +116,7 @@ fn near_scope(rng: &mut Rng, context: &Context, event: &[u8]) -> Vec<u8> {
     set_page(&mut record, page);
     if kind == 1 || kind == 3 {
         // The global mark.
-        record[5] = rng.below(2) as u8;
+        set_field(&mut record, 2, rng.below(2) as u64);
     }
     record
 }
@@ -137,7 +132,7 @@ fn bad_record(rng: &mut Rng, context: &Context, mut bytes: Vec<u8>) -> Vec<u8> {
         10 => bytes.truncate(bytes.len() - 1),
         11 => bytes.extend_from_within(..),
         12 | 13 => bytes.extend(record(rng, context)),
-        14 => bytes.extend_from_slice(&rng.number().to_le_bytes()),
+        14 => put(&mut bytes, rng.number(), 8),
         _ => {
             let more = rng.below(3);
             bytes = bytes.repeat(TABLE_LIMIT / bytes.len() + more);

@@ -89,12 +89,7 @@ pub fn canonical(rng: &mut Rng) -> u64 {
 
 /// The canonical address at an offset in a page.
 pub fn canonical_of(page: u64, offset: u64) -> u64 {
-    let address = page << 12 | offset;
-    if address >> 47 == 1 {
-        address | 0xFFFF << 48
-    } else {
-        address
-    }
+    common::canonical(page << 12 | offset)
 }
 
 /// A guest-physical address below 2^48.

@@ -1,32 +1,34 @@
 //! Whole runs and logs.
 
-use crate::event::{any_event, damage, event_of_kind, fitting};
-use crate::layout::near;
-use crate::record::record_of_kind;
+use crate::bounds::near;
+use crate::context::capability;
+use crate::damage::{any_event, damage};
+use crate::event::event_of_kind;
+use crate::fitting::fitting;
+use crate::record::{record, record_of_kind};
 use crate::Rng;
-use model::{Context, Place, LOG_LIMIT, PROGRAM_CAPABILITY, PROGRAM_WIDTH, TABLE_LIMIT};
+use common::{set_field, LOG_LIMIT, PROGRAM_CAPABILITY, PROGRAM_WIDTH, TABLE_LIMIT};
+use model::{Context, Place};
 
-/// The context from which a run starts, with the program's numbers.
-fn start() -> Context {
-    Context {
-        capability: PROGRAM_CAPABILITY,
-        width: PROGRAM_WIDTH,
-        pcid: 0,
-        cpl: 0,
-        place: Place::Outside,
+/// The capability and the width with which a run starts: mostly the program's.
+pub fn start(rng: &mut Rng) -> (u64, u64) {
+    match rng.below(6) {
+        0 => (capability(rng), PROGRAM_WIDTH),
+        1 => (PROGRAM_CAPABILITY, 35 + rng.below(19) as u64),
+        _ => (PROGRAM_CAPABILITY, PROGRAM_WIDTH),
     }
 }
 
 /// The events of a run: most are accepted with the program's capability and
 /// width, others are refused, damaged or random bytes.
 pub fn events(rng: &mut Rng, count: usize) -> Vec<Vec<u8>> {
-    let mut context = start();
+    let mut context = Context::program();
     let mut events = Vec::new();
     while events.len() < count {
         let event = match rng.below(40) {
             0 => any_event(rng, &context),
             1 => {
-                let mut event = creation(rng, &context);
+                let mut event = record(rng, &context);
                 damage(rng, &mut event);
                 event
             }
@@ -37,17 +39,12 @@ pub fn events(rng: &mut Rng, count: usize) -> Vec<Vec<u8>> {
     events
 }
 
-fn creation(rng: &mut Rng, context: &Context) -> Vec<u8> {
-    let kind = 1 + rng.below(6) as u8;
-    record_of_kind(rng, context, kind)
-}
-
 /// An event of a known kind and its whole length. The context is the one
 /// after it, so far as it is one that should be accepted.
 fn whole(rng: &mut Rng, context: &mut Context) -> Vec<u8> {
     match rng.below(16) {
         // These change no context, whether they are accepted or not.
-        0 => creation(rng, context),
+        0 => record(rng, context),
         1 => {
             let kind = rng.pick(&[1, 2, 3, 4, 5, 6, 16, 17, 18, 19]);
             let event = event_of_kind(rng, context, kind);
@@ -72,7 +69,7 @@ fn refused(rng: &mut Rng, context: &Context) -> Vec<u8> {
         (0, _) => {
             // PCID 4,096.
             let mut event = event_of_kind(rng, context, 24);
-            event[1..3].copy_from_slice(&[0, 0x10]);
+            set_field(&mut event, 0, 4_096);
             event
         }
         (1, Place::Outside) => vec![23],
@@ -81,7 +78,8 @@ fn refused(rng: &mut Rng, context: &Context) -> Vec<u8> {
         (2, Place::Root) => {
             // VPIDs enabled with VPID 0.
             let mut event = event_of_kind(rng, context, 20);
-            event[1..4].copy_from_slice(&[1, 0, 0]);
+            set_field(&mut event, 0, 1);
+            set_field(&mut event, 1, 0);
             event
         }
         (_, Place::Root) => event_of_kind(rng, context, 21),
@@ -93,7 +91,7 @@ fn refused(rng: &mut Rng, context: &Context) -> Vec<u8> {
 /// A log of about so many bytes. Most are whole; some are cut, or have an
 /// unknown kind somewhere.
 pub fn log(rng: &mut Rng, length: usize) -> Vec<u8> {
-    let mut context = start();
+    let mut context = Context::program();
     let mut log = Vec::new();
     while log.len() < length {
         let event = whole(rng, &mut context);
@@ -115,14 +113,15 @@ pub fn log(rng: &mut Rng, length: usize) -> Vec<u8> {
 /// VPID 0, PCID 0.
 fn own_record(rng: &mut Rng, context: &Context, kind: u8) -> Vec<u8> {
     let mut record = record_of_kind(rng, context, kind);
-    record[1..5].fill(0);
+    set_field(&mut record, 0, 0);
+    set_field(&mut record, 1, 0);
     record
 }
 
 /// A log of at most the limit that fills the table to its last byte or
 /// nearly, is refused creations, and goes on with drops and creations.
 pub fn filling_log(rng: &mut Rng) -> Vec<u8> {
-    let mut context = start();
+    let mut context = Context::program();
     let mut log = Vec::new();
     let mut filled = 0;
     let free = rng.pick(&[0, 0, 0, 1, 16]);
@@ -144,7 +143,7 @@ pub fn filling_log(rng: &mut Rng) -> Vec<u8> {
     log.extend_from_slice(&own_record(rng, &context, 1));
     loop {
         let event = if rng.one_in(3) {
-            creation(rng, &context)
+            record(rng, &context)
         } else {
             whole(rng, &mut context)
         };

@@ -1,7 +1,8 @@
 //! The generator reaches every answer often, and gives the same each time.
 
-use generate::{case, event_length, events, explain, filling_log, log, query, Rng, KINDS};
-use model::{lookup, step, LOG_LIMIT};
+use common::{field, sizes, KINDS, LOG_LIMIT};
+use generate::{case, events, explain, filling_log, log, near_events, query, Rng};
+use model::{lookup, step};
 
 const SEED: u64 = 7;
 
@@ -116,11 +117,22 @@ fn the_same_seed_gives_the_same() {
     assert_ne!(Rng::new(0).number(), Rng::new(1).number());
 }
 
+/// In each field there are near events, all bits of it and more.
 #[test]
-fn lengths_agree_with_the_model() {
-    for kind in 0..=255 {
-        assert_eq!(event_length(kind), model::event::length(kind));
+fn near_events_change_every_field() {
+    let mut rng = Rng::new(SEED);
+    let context = generate::context(&mut rng);
+    for kind in KINDS {
+        let event = generate::event_of_kind(&mut rng, &context, kind);
+        let near = near_events(&event);
+        for (nth, size) in sizes(kind).unwrap_or_default().iter().enumerate() {
+            let changed = |near: &&Vec<u8>| field(near, nth) != field(&event, nth);
+            let count = near.iter().filter(changed).count();
+            assert!(count > 8 * size, "kind {kind}, field {nth}: {count}");
+        }
+        assert!(near.iter().all(|near| near.len() == event.len()));
     }
+    assert!(near_events(&[16, 0]).is_empty() && near_events(&[]).is_empty());
 }
 
 #[test]

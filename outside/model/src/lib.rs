@@ -1,7 +1,7 @@
 //! The independent model: document 01 in plain Rust, and document 02's asks.
 //!
-//! Written from the papers (documents/01-scope.md and its sources, and
-//! 02-change-requests.md) and from nothing else, so that it can be compared
+//! Written from the papers (documents 01 and 02, and the sources that they name,
+//! none of them in this repository) and from nothing else, so that it can be compared
 //! with the proved model. It is meant to be read beside document 01: each
 //! file is one of its sections.
 //!

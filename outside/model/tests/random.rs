@@ -1,7 +1,7 @@
 //! The plain step against the tuned one and the book, on random inputs. A
 //! failure prints the seed and the case.
 
-use generate::{case, events, filling_log, hex, log, query, removal, Rng};
+use generate::{case, events, filling_log, hex, log, query, removal, start, Rng};
 use model::book::Book;
 use model::{lookup, replay, step, tuned, usable, Address, Context, Line, TABLE_LIMIT};
 use model::{PROGRAM_CAPABILITY, PROGRAM_WIDTH};
@@ -108,14 +108,6 @@ impl Run {
         }
         self.context = step.context;
         (step.answer, step.dropped)
-    }
-}
-
-fn start(rng: &mut Rng) -> (u64, u64) {
-    match rng.below(6) {
-        0 => (generate::capability(rng), PROGRAM_WIDTH),
-        1 => (PROGRAM_CAPABILITY, 35 + rng.below(19) as u64),
-        _ => (PROGRAM_CAPABILITY, PROGRAM_WIDTH),
     }
 }
 

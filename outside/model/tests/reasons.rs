@@ -1,4 +1,4 @@
-//! Why a mapping went or stayed (document 02, Asks 1 and 2; READINGS.md, section 9):
+//! Why a mapping went or stayed (document 02, Asks 1 and 2):
 //! rows worked out from the papers by hand, then random inputs.
 
 mod common;
@@ -11,15 +11,8 @@ use Reason::*;
 
 const SEED: u64 = 20_260_101;
 
-const EP4TA: u64 = 0x123_4567;
-const EPTP: u64 = 0x12_3456_701E;
-
 /// A page that no record here covers, as an address.
 const FAR: u64 = 1 << 30;
-
-fn ept_guest() -> Context {
-    guest(5, Some(EP4TA))
-}
 
 /// The reasons for the kinds 1 to 6, with `m`'s fields changed by `f`.
 fn kinds(context: &Context, event: &[u8], f: impl Fn(&mut M)) -> [Reason; 6] {
@@ -213,7 +206,14 @@ fn invlpg_in_order() {
     // Structure caches go whatever they cover (Ask 2).
     assert_eq!(
         each(&own_pcid),
-        [NotCovering, WrongKind, NotCovering, InScope, WrongKind, InScope]
+        [
+            NotCovering,
+            WrongKind,
+            NotCovering,
+            InScope,
+            WrongKind,
+            InScope
+        ]
     );
     // Any EP4TA, with EPT off too.
     let covers = |m: &mut M| m.ep4ta = 9;
@@ -348,7 +348,14 @@ fn invvpid_type_3() {
     assert_eq!(kinds(&root(), &event, global(6)), with(WrongVpid));
     assert_eq!(
         kinds(&root(), &event, global(5)),
-        [SparedAsGlobal, WrongKind, SparedAsGlobal, InScope, WrongKind, InScope]
+        [
+            SparedAsGlobal,
+            WrongKind,
+            SparedAsGlobal,
+            InScope,
+            WrongKind,
+            InScope
+        ]
     );
     assert_eq!(kinds(&root(), &event, |_| ()), with(InScope));
 }
@@ -408,12 +415,26 @@ fn violation_by_its_two_addresses() {
     let linear_elsewhere = violation(0, 1, FAR);
     assert_eq!(
         kinds(&context, &linear_elsewhere, |_| ()),
-        [WrongKind, InScope, NotCovering, WrongKind, InScope, NotCovering]
+        [
+            WrongKind,
+            InScope,
+            NotCovering,
+            WrongKind,
+            InScope,
+            NotCovering
+        ]
     );
     let guest_elsewhere = violation(FAR, 1, 0);
     assert_eq!(
         kinds(&context, &guest_elsewhere, |_| ()),
-        [WrongKind, NotCovering, InScope, WrongKind, NotCovering, InScope]
+        [
+            WrongKind,
+            NotCovering,
+            InScope,
+            WrongKind,
+            NotCovering,
+            InScope
+        ]
     );
 }
 

@@ -1,24 +1,45 @@
--- `answer_to_event` hands the seven grounds to `first_ground` in the order of their numbers.
+-- Behind 5, 6 and 7 the answer is the event's own ground.
+use Rattle.laws.specs.Answers.{event-answer-own}
 use Rattle.answers.proofs.answer_to_event.Statement.{statement}
 use Rattle.answers.proofs.answer_to_event.Tie as tie
 
 returns : tie.Need-returns
-unfolding Rattle.model.specs.Answers.event-answer Rattle.model.specs.Answers.event-grounds Rattle.model.specs.Answers.first
-returns c =
+returns c = rw (event-answer-own, ← c .before .is-invalid-opcode .ensures, c .if1 .taken)
+
+returns-2 : tie.Need-returns-2
+returns-2 c =
+    let opcode = c .before .before in
+    rw (event-answer-own, ← opcode .before .is-invalid-opcode .ensures, opcode .if1 .left, ← c .before .is-exiting .ensures, c .if2 .taken)
+
+returns-3 : tie.Need-returns-3
+returns-3 c =
+    let exits = c .before .before in
+    let opcode = exits .before .before in
     rw (
-      c .first-ground .ensures,
-      c .before .before .before .before .before .before .before .is-invalid-opcode .ensures,
-      c .before .before .before .before .before .before .is-exiting .ensures,
-      c .before .before .before .before .before .is-general-protection .ensures,
-      c .before .before .before .before .is-invalid-operand .ensures,
-      c .before .before .before .is-out-of-place .ensures,
-      c .before .before .is-failing-entry .ensures,
-      c .before .is-failing-creation .ensures,
+      event-answer-own,
+      ← opcode .before .is-invalid-opcode .ensures,
+      opcode .if1 .left,
+      ← exits .before .is-exiting .ensures,
+      exits .if2 .left,
+      ← c .before .is-general-protection .ensures,
+      c .if3 .taken,
     )
 
+returns-4 : tie.Need-returns-4
+returns-4 c =
+    let protection = c .before in
+    let exits = protection .before .before in
+    let opcode = exits .before .before in
+    rw (
+      event-answer-own,
+      ← opcode .before .is-invalid-opcode .ensures,
+      opcode .if1 .left,
+      ← exits .before .is-exiting .ensures,
+      exits .if2 .left,
+      ← protection .before .is-general-protection .ensures,
+      protection .if3 .left,
+    )
+    (c .own-ground .ensures)
+
 pub answer-to-event-spec : {M : Type 1} → statement M
-answer-to-event-spec =
-    tie.close
-    (tie.spec
-    (λ c κs. tt) (λ c κs. tt) (λ c κs. tt) (λ c κs. tt) (λ c κs. tt) (λ c κs. tt)
-    (λ c κs. tt) (λ c κs. tt) returns)
+answer-to-event-spec = tie.close (tie.spec (λ c κs. tt) returns (λ c κs. tt) returns-2 (λ c κs. tt) returns-3 (λ c κs. tt) returns-4)

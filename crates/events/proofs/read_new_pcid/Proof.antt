@@ -1,29 +1,13 @@
--- The test is that of the ranges, over the numbers read.
-use mathlib.Core.Path.{refl}
+-- The numbers are those of the body.
 use borrow.Author.Needs.{needs}
-use Rattle.model.specs.Layouts.{field, mapping-kind, event-kind, length-of, body-of}
-use Rattle.model.specs.Events.{event, new-pcid, event-in-range}
-use Rattle.events.proofs.Laws.{invalid-length, invalid-field, read-valid}
+use Rattle.model.specs.Layouts.{field, body-of}
+use Rattle.model.specs.Events.{new-pcid}
 use Rattle.events.proofs.read_new_pcid.Statement.{statement}
 use Rattle.events.proofs.read_new_pcid.Tie as tie
 
 returns : tie.Need-returns
-unfolding length-of body-of
-returns c = invalid-length _ 24 (c .before .before .pre) (c .if1 .taken)
-
-returns-2 : tie.Need-returns-2
-unfolding event new-pcid field mapping-kind event-kind length-of body-of event-in-range
-returns-2 c =
-    let test = c .before .before .before in
-    let kind = test .before .before .pre in
-    read-valid _ 24 _ kind refl (test .if1 .left) (rw kind (cc)) (c .if2 .taken)
-
-returns-3 : tie.Need-returns-3
-unfolding event new-pcid field mapping-kind body-of event-in-range
-returns-3 c =
-    let told = rw (c .before .number1 .ensures .0, c .before .before .number2 .ensures .0) at (c .if2 .left) in
-    invalid-field _ (rw (c .before .before .before .before .before .pre) told)
+unfolding new-pcid field body-of
+returns c = rw (c .before .before .before .pre .0) (cc)
 
 pub read-new-pcid-spec : {M : Type 1} → statement M
-read-new-pcid-spec =
-    tie.close (tie.spec returns (λ c κs. search needs) (λ c κs. search needs) returns-2 returns-3)
+read-new-pcid-spec = tie.close (tie.spec (λ c κs. search needs) (λ c κs. search needs) returns)

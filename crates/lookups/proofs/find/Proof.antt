@@ -5,7 +5,8 @@ use borrow.Author.Needs.{needs}
 use borrow.Author.Tests.{eq-eqb, ne-eqb}
 use denote.Ref.{now}
 use Rattle.model.specs.Lookups.{lookup, lookup-start}
-use Rattle.lookups.proofs.Laws.{answered-whole, end-of-part}
+use Rattle.laws.specs.Lists.{end-of-part}
+use Rattle.laws.specs.Lookups.{lookup-answer-whole}
 use Rattle.lookups.proofs.find.Statement.{statement}
 use Rattle.lookups.proofs.find.Tie as tie
 
@@ -16,7 +17,7 @@ returns c =
     (c .before .answer-to-lookup .ensures, rw not-0 (omega arith, omega arith))
 
 search-requires : tie.Need-search-requires
-search-requires c κs = answered-whole _ _ (sym (c .before .answer-to-lookup .ensures) ∙ c .if1 .left)
+search-requires c κs = lookup-answer-whole _ _ (sym (c .before .answer-to-lookup .ensures) ∙ c .if1 .left)
 
 returns-2 : tie.Need-returns-2
 unfolding lookup lookup-start

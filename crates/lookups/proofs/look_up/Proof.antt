@@ -4,7 +4,7 @@ use native.Mathlib.Nat.{zero-add}
 use borrow.Author.Needs.{needs}
 use borrow.Author.Tests.{eq-eqb, ne-eqb}
 use Rattle.model.specs.Lookups.{lookup, lookup-start}
-use Rattle.lookups.proofs.Laws.{answered-whole}
+use Rattle.laws.specs.Lookups.{lookup-answer-whole}
 use Rattle.lookups.proofs.look_up.Statement.{statement}
 use Rattle.lookups.proofs.look_up.Tie as tie
 
@@ -15,7 +15,7 @@ returns c =
     (rw not-0, rw (not-0, zero-add))
 
 search-requires : tie.Need-search-requires
-search-requires c κs = answered-whole _ _ (sym (c .before .answer-to-lookup .ensures) ∙ c .if1 .left)
+search-requires c κs = lookup-answer-whole _ _ (sym (c .before .answer-to-lookup .ensures) ∙ c .if1 .left)
 
 returns-2 : tie.Need-returns-2
 unfolding lookup lookup-start

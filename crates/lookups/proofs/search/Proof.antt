@@ -5,7 +5,7 @@ use borrow.Author.Needs.{needs}
 use denote.Ref.{now}
 use lib.ListN.{length}
 use Rattle.laws.specs.Tables.{Next, held-of-whole, next-of-whole}
-use Rattle.lookups.specs.Searching.{Searching, search-start, search-end, search-skip, search-next, search-found}
+use Rattle.lookups.specs.Laws.Searching.{Searching, search-start, search-end, search-skip, search-next, search-found}
 use Rattle.lookups.proofs.search.Statement.{statement}
 use Rattle.lookups.proofs.search.Tie as tie
 

@@ -1,27 +1,25 @@
--- Kinds 1 and 3 have the global mark, every other kind has none.
+-- The kinds with a mark have it at one place.
+use borrow.Author.Needs.{needs}
+use mathlib.Core.Path.{ap, _∙_}
 use native.Mathlib.Omega.{arith}
-use mathlib.Core.Path.{_≡_, refl}
-use Rattle.model.specs.Layouts.{kind-of, body-of}
-use Rattle.mappings.specs.Fields.{held-length, mapping-of-two, mapping-but}
+use Rattle.model.specs.Mappings.{global-marked}
+use Rattle.laws.specs.Mappings.{held-length, global-held}
+use Rattle.mappings.specs.Laws.Places.{read-where, none-where}
 use Rattle.mappings.proofs.global.Statement.{statement}
 use Rattle.mappings.proofs.global.Tie as tie
 
-shared-slice-read-match : tie.Need-shared-slice-read-match
-shared-slice-read-match c = omega (arith, held-length _ (c .before .before .pre))
-
 number1-requires : tie.Need-number1-requires
-number1-requires c κs = omega (arith, held-length _ (c .before .before .before .pre))
+number1-requires c κs = omega (arith, held-length _ (c .before .before .before .before .pre))
 
 returns : tie.Need-returns
-unfolding kind-of body-of
 returns c =
-    let here = c .number1 .ensures .0 in
-    mapping-of-two (λ m. c .number1 .result ≡ m .global) _ (c .before .match .keys1) here here
+    let c1 = c .before .before in
+    read-where (global-held _ (c1 .before .before .before .pre)) (c1 .is-global-marked .ensures ∙ ap global-marked (c1 .before .kind .ensures)) (c .before .if1 .taken) (c .number1 .ensures .0)
 
 returns-2 : tie.Need-returns-2
-unfolding kind-of body-of
 returns-2 c =
-    mapping-but (λ m. 0 ≡ m .global) _ (c .before .before .before .pre) (c .match .rest .1) tt refl tt refl refl refl
+    let c1 = c .before in
+    none-where _ (global-held _ (c1 .before .before .before .pre)) (c1 .is-global-marked .ensures ∙ ap global-marked (c1 .before .kind .ensures)) (c .if1 .left)
 
 pub global-spec : {M : Type 1} → statement M
-global-spec = tie.close (tie.spec shared-slice-read-match number1-requires returns returns-2)
+global-spec = tie.close (tie.spec (λ c κs. search needs) (λ c κs. search needs) number1-requires returns returns-2)

@@ -5,13 +5,18 @@ use native.Mathlib.Omega.{arith}
 use borrow.Author.Tests.{not-true, not-false}
 use denote.Ref.{now}
 use Rattle.model.specs.Mappings.{mapping, span-in-range}
-use Rattle.mappings.specs.Fields.{held-length, span-below, ranges-off, ranges-tests}
+use Rattle.laws.specs.Mappings.{held-length}
+use Rattle.mappings.specs.Laws.Ranges.{span-below, ranges-off, ranges-tests}
 use Rattle.mappings.proofs.is_in_ranges.Statement.{statement}
 use Rattle.mappings.proofs.is_in_ranges.Tie as tie
 
 -- what the test of the span says
 said : (c : tie.After-is-span) → c .is-span .result ≡ span-in-range (mapping (now (c .before .before .before .before .args .part)) .kind) (mapping (now (c .before .before .before .before .args .part)) .span)
 said c = rw (c .before .before .kind .ensures, c .before .span .ensures) at (c .is-span .ensures)
+
+is-span-requires : tie.Need-is-span-requires
+unfolding mapping
+is-span-requires c κs = rw (c .before .kind .ensures) (c .before .before .before .pre .known)
 
 returns : tie.Need-returns
 returns c = sym (ranges-off _ (sym (said (c .before)) ∙ not-true _ (c .if1 .taken)))
@@ -24,21 +29,26 @@ number2-requires c κs = omega (arith, held-length _ (c .before .before .before 
 
 is-page-requires : tie.Need-is-page-requires
 is-page-requires c κs =
-    let c4 = c .before .before .before .before in
-    span-below (c4 .before .before .kind .result) _ (sym (c4 .is-span .ensures) ∙ not-false _ (c .before .before .before .if1 .left))
+    let c4 = c .before .before .before .before .before in
+    let c3 = c4 .before in
+    span-below (c3 .before .before .kind .result) _ (sym (c3 .is-span .ensures) ∙ not-false _ (c4 .if1 .left))
 
 returns-2 : tie.Need-returns-2
 returns-2 c =
-    let on = sym (said (c .before .before .before .before .before)) ∙ not-false _ (c .before .before .before .before .if1 .left) in
+    let c4 = c .before .before .before .before .before .before in
+    let c3 = c4 .before in
+    let on = sym (said c3) ∙ not-false _ (c4 .if1 .left) in
     rw (
       c .is-page .ensures,
-      c .before .page .ensures,
-      c .before .before .number2 .ensures .0,
-      c .before .before .before .number1 .ensures .0,
-      c .before .before .before .before .before .before .span .ensures,
-      c .before .before .before .before .before .before .before .kind .ensures,
+      c .before .is-guest-physical .ensures,
+      c .before .before .is-global-marked .ensures,
+      c .before .before .before .page .ensures,
+      c .before .before .before .before .number2 .ensures .0,
+      c .before .before .before .before .before .number1 .ensures .0,
+      c3 .before .span .ensures,
+      c3 .before .before .kind .ensures,
     )
-    (ranges-tests _ (c .before .before .before .before .before .before .before .before .before .pre) on)
+    (ranges-tests _ (c3 .before .before .before .before .pre) on)
 
 pub is-in-ranges-spec : {M : Type 1} → statement M
 is-in-ranges-spec =
@@ -46,10 +56,12 @@ is-in-ranges-spec =
     (tie.spec
     (λ c κs. search needs)
     (λ c κs. search needs)
-    (λ c κs. search needs)
+    is-span-requires
     returns
     number1-requires
     number2-requires
+    (λ c κs. search needs)
+    (λ c κs. search needs)
     (λ c κs. search needs)
     is-page-requires
     returns-2)

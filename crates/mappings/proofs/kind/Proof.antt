@@ -2,7 +2,7 @@
 use native.Mathlib.Omega.{arith}
 use Rattle.model.specs.Layouts.{kind-of}
 use Rattle.model.specs.Mappings.{mapping}
-use Rattle.mappings.specs.Fields.{held-length}
+use Rattle.laws.specs.Mappings.{held-length}
 use Rattle.mappings.proofs.kind.Statement.{statement}
 use Rattle.mappings.proofs.kind.Tie as tie
 

@@ -6,9 +6,8 @@ use native.Mathlib.Omega.{arith}
 use borrow.Author.Tests.{not-true, not-false}
 use denote.Ref.{now}
 use Rattle.model.specs.Layouts.{kind-of, mapping-kind, length-of}
-use Rattle.laws.specs.Layouts.{mapping-kind-le}
-use Rattle.laws.specs.Mappings.{Held, record-length-le, record-length-unknown, record-length-short, record-length-held}
-use Rattle.mappings.specs.Fields.{length-by-kind}
+use Rattle.model.specs.Mappings.{Held}
+use Rattle.laws.specs.Mappings.{record-length-le, record-length-unknown, record-length-short, record-length-held}
 use Rattle.mappings.proofs.length_of_record.Statement.{statement}
 use Rattle.mappings.proofs.length_of_record.Tie as tie
 
@@ -16,9 +15,9 @@ returns : tie.Need-returns
 returns c = omega (arith, record-length-le (now (c .before .before .args .part)))
 
 -- what the test of the kind says
-said : (c : tie.After-is-kind) → c .is-kind .result ≡ mapping-kind (kind-of (now (c .before .before .before .before .args .part)))
+said : (c : tie.After-is-mapping) → c .is-mapping .result ≡ mapping-kind (kind-of (now (c .before .before .before .before .args .part)))
 unfolding kind-of
-said c = rw (c .before .number1 .ensures .0) at (c .is-kind .ensures)
+said c = rw (c .before .number1 .ensures .0) at (c .is-mapping .ensures)
 
 returns-2 : tie.Need-returns-2
 returns-2 c = sym (record-length-unknown _ (sym (said (c .before)) ∙ not-true _ (c .if2 .taken)))
@@ -26,14 +25,14 @@ returns-2 c = sym (record-length-unknown _ (sym (said (c .before)) ∙ not-true 
 known : (c : tie.Else2) → mapping-kind (kind-of (now (c .before .before .before .before .before .args .part))) ≡ true
 known c = sym (said (c .before)) ∙ not-false _ (c .if2 .left)
 
-of-kind-requires : tie.Need-of-kind-requires
+length-of-mapping-requires : tie.Need-length-of-mapping-requires
 unfolding kind-of
-of-kind-requires c κs = omega (arith, mapping-kind-le _ (known c), c .before .before .number1 .ensures .0)
+length-of-mapping-requires c κs = rw (c .before .before .number1 .ensures .0) (known c)
 
 -- the length that was read
-read : (c : tie.After-of-kind) → c .of-kind .result ≡ length-of (kind-of (now (c .before .before .before .before .before .before .args .part)))
+read : (c : tie.After-length-of-mapping) → c .length-of-mapping .result ≡ length-of (kind-of (now (c .before .before .before .before .before .before .args .part)))
 unfolding kind-of
-read c = rw (c .before .before .before .number1 .ensures .0) at (c .of-kind .ensures) ∙ length-by-kind _ (known (c .before))
+read c = rw (c .before .before .before .number1 .ensures .0) at (c .length-of-mapping .ensures)
 
 returns-3 : tie.Need-returns-3
 returns-3 c = sym (record-length-short _ (omega (arith, read (c .before))))
@@ -60,7 +59,7 @@ length-of-record-spec =
     (λ c κs. search needs)
     (λ c κs. search needs)
     returns-2
-    of-kind-requires
+    length-of-mapping-requires
     returns-3
     is-in-ranges-requires
     returns-4

@@ -1,26 +1,26 @@
--- Kinds 2 and 5 have no VPID; every other kind has it at the same place.
+-- All but guest-physical mappings have the VPID, at one place.
+use mathlib.Core.Bool.{not}
+use borrow.Author.Needs.{needs}
+use mathlib.Core.Path.{ap, _∙_}
 use native.Mathlib.Omega.{arith}
-use mathlib.Core.Path.{_≡_, refl}
-use Rattle.model.specs.Layouts.{kind-of, body-of}
-use Rattle.mappings.specs.Fields.{held-length, mapping-of-two, mapping-but}
+use Rattle.model.specs.Mappings.{guest-physical}
+use Rattle.laws.specs.Mappings.{held-length, vpid-held}
+use Rattle.mappings.specs.Laws.Places.{read-where, none-where}
 use Rattle.mappings.proofs.vpid.Statement.{statement}
 use Rattle.mappings.proofs.vpid.Tie as tie
 
-shared-slice-read-match : tie.Need-shared-slice-read-match
-shared-slice-read-match c = omega (arith, held-length _ (c .before .before .pre))
-
 number2-requires : tie.Need-number2-requires
-number2-requires c κs = omega (arith, held-length _ (c .before .before .before .pre))
+number2-requires c κs = omega (arith, held-length _ (c .before .before .before .before .pre))
 
 returns : tie.Need-returns
-unfolding kind-of body-of
-returns c = mapping-of-two (λ m. 0 ≡ m .vpid) _ (c .match .keys1) refl refl
+returns c =
+    let c1 = c .before .before in
+    read-where (vpid-held _ (c1 .before .before .before .pre)) (ap not (c1 .is-guest-physical .ensures ∙ ap guest-physical (c1 .before .kind .ensures))) (c .before .if1 .taken) (c .number2 .ensures .0)
 
 returns-2 : tie.Need-returns-2
-unfolding kind-of body-of
 returns-2 c =
-    let here = c .number2 .ensures .0 in
-    mapping-but (λ m. c .number2 .result ≡ m .vpid) _ (c .before .before .before .before .pre) (c .before .match .rest .1) here tt here here tt here
+    let c1 = c .before in
+    none-where _ (vpid-held _ (c1 .before .before .before .pre)) (ap not (c1 .is-guest-physical .ensures ∙ ap guest-physical (c1 .before .kind .ensures))) (c .if1 .left)
 
 pub vpid-spec : {M : Type 1} → statement M
-vpid-spec = tie.close (tie.spec shared-slice-read-match number2-requires returns returns-2)
+vpid-spec = tie.close (tie.spec (λ c κs. search needs) (λ c κs. search needs) number2-requires returns returns-2)

@@ -1,18 +1,20 @@
--- Each refusal gives the number of its stage; past them the first reason is named.
+-- Each refusal gives the number of its stage; past them the reason is the scope's.
+use Prim.Native.Nat.{_<_}
 use mathlib.Core.Bool.{true}
-use mathlib.Core.Path.{_≡_, sym, ap, ap₂, _∙_}
+use mathlib.Core.Path.{_≡_, sym, ap, _∙_}
 use native.Mathlib.Omega.{arith}
 use borrow.Author.Needs.{needs}
 use borrow.Author.Tests.{not-true, not-false}
 use denote.Ref.{now}
-use Rattle.model.specs.Layouts.{kind-of, length-of}
-use Rattle.model.specs.Mappings.{mapping, starts-record}
-use Rattle.model.specs.Events.{event}
+use Rattle.model.specs.declared.Explanation.the-variants.{Accepted}
+use Rattle.model.specs.Context.{in-range}
+use Rattle.model.specs.Mappings.{mapping, record-length}
+use Rattle.model.specs.Events.{event, valid-event}
 use Rattle.model.specs.Answers.{event-answer}
-use Rattle.laws.specs.Mappings.{starts-reading-record, starts-reading-nothing}
+use Rattle.model.specs.Reasons.{one-record, reason}
+use Rattle.laws.specs.Mappings.{held-record-length}
 use Rattle.laws.specs.Events.{valid-event-read, valid-event-invalid}
-use Rattle.reasons.specs.Reasons.{first-reason, failed}
-use Rattle.reasons.specs.Refusals.{one-record-none, one-record-other, one-record-made, explanation-refused, explanation-accepted, explained-out-of-range, explained-no-record, explained-invalid, explained-event, explained-accepted}
+use Rattle.laws.specs.Reasons.{one-record-none, one-record-other, one-record-made, explanation-refused, explanation-accepted, explained-out-of-range, explained-no-record, explained-invalid, explained-event, explained-accepted}
 use Rattle.reasons.proofs.explain.Statement.{statement}
 use Rattle.reasons.proofs.explain.Tie as tie
 
@@ -22,73 +24,94 @@ returns c =
     let out = sym (c .before .is-in-range .ensures) ∙ not-true _ (c .if1 .taken) in
     explanation-refused (a .c) (now (a .bytes)) (now (a .event)) 1 (explained-out-of-range (a .c) (now (a .bytes)) (now (a .event)) out) (λ z. omega arith)
 
+-- the context is in its ranges
+fit : (c : tie.Else1) → in-range (c .before .before .before .before .args .c) ≡ true
+fit c = sym (c .before .is-in-range .ensures) ∙ not-false _ (c .if1 .left)
+
 returns-2 : tie.Need-returns-2
 returns-2 c =
-    let a = c .before .before .before .before .before .before .before .args in
-    let fit = sym (c .before .before .before .before .is-in-range .ensures) ∙ not-false _ (c .before .before .before .if1 .left) in
-    let none = starts-reading-nothing (now (a .bytes)) (sym (c .before .before .read-record .ensures) ∙ c .enum-told .given .1) in
+    let a = c .before .before .before .before .before .before .args in
+    let none = one-record-none (now (a .bytes)) (sym (c .before .length-of-record .ensures) ∙ c .if2 .taken) in
     explanation-refused (a .c) (now (a .bytes)) (now (a .event)) 3
-    (explained-no-record (a .c) (now (a .bytes)) (now (a .event)) fit (one-record-none (now (a .bytes)) none))
+    (explained-no-record (a .c) (now (a .bytes)) (now (a .event)) (fit (c .before .before)) none)
     (λ z. omega arith)
 
--- the record that was read, in a context that is in its ranges
-read : (c : tie.After-known-told)
-    → (starts-record (now (c .before .before .before .before .before .before .before .before .args .bytes)) ≡ true)
-    × ((c .before .m .given .0 .0 ≡ mapping (now (c .before .before .before .before .before .before .before .before .args .bytes)))
-    × (c .before .m .given .0 .1 .0 ≡ length-of (kind-of (now (c .before .before .before .before .before .before .before .before .args .bytes)))))
-read c = starts-reading-record _ _ _ (sym (c .before .before .before .read-record .ensures) ∙ c .before .m .given .1)
+-- a record starts at the front
+some : (c : tie.Else2) → 0 < record-length (now (c .before .before .before .before .before .before .args .bytes))
+some c = omega (arith, c .before .length-of-record .ensures, c .if2 .left)
 
 returns-3 : tie.Need-returns-3
 returns-3 c =
-    let a = c .before .before .before .before .before .before .before .before .before .args in
-    let fit = sym (c .before .before .before .before .before .before .is-in-range .ensures) ∙ not-false _ (c .before .before .before .before .before .if1 .left) in
+    let a = c .before .before .before .before .before .before .before .args in
+    let none = one-record-other (now (a .bytes)) (some (c .before)) (λ same. c .if3 .taken (c .before .before .length-of-record .ensures ∙ same)) in
     explanation-refused (a .c) (now (a .bytes)) (now (a .event)) 3
-    (explained-no-record (a .c) (now (a .bytes)) (now (a .event)) fit (one-record-other (now (a .bytes)) (λ same. c .if2 .taken (read (c .before) .1 .1 ∙ same))))
+    (explained-no-record (a .c) (now (a .bytes)) (now (a .event)) (fit (c .before .before .before)) none)
     (λ z. omega arith)
+
+-- the bytes are exactly one valid record
+one : (c : tie.Else3) → one-record (now (c .before .before .before .before .before .before .before .args .bytes)) ≡ true
+one c = one-record-made _ (some (c .before)) (sym (c .before .before .length-of-record .ensures) ∙ c .if3 .left)
 
 returns-4 : tie.Need-returns-4
 returns-4 c =
-    let a = c .before .before .before .before .before .before .before .before .before .before .before .before .args in
-    let fit = sym (c .before .before .before .before .before .before .before .before .before .is-in-range .ensures) ∙ not-false _ (c .before .before .before .before .before .before .before .before .if1 .left) in
-    let made = read (c .before .before .before .before) in
-    let one = one-record-made (now (a .bytes)) (made .0) (sym (made .1 .1) ∙ c .before .before .before .if2 .left) in
-    let invalid = valid-event-invalid (now (a .event)) (sym (c .before .before .read-event .ensures) ∙ c .enum-told2 .given .1) in
+    let a = c .before .before .before .before .before .before .before .before .before .before .args in
+    let c3 = c .before .before .before in
+    let invalid = valid-event-invalid (now (a .event)) (sym (c .before .before .read-event .ensures) ∙ c .enum-told .given .1) in
     explanation-refused (a .c) (now (a .bytes)) (now (a .event)) 4
-    (explained-invalid (a .c) (now (a .bytes)) (now (a .event)) fit one invalid)
+    (explained-invalid (a .c) (now (a .bytes)) (now (a .event)) (fit (c3 .before .before .before)) (one c3) invalid)
     (λ z. omega arith)
+
+-- the event is valid, and was read
+valid : (c : tie.After-known-told)
+    → (valid-event (now (c .before .before .before .before .before .before .before .before .before .before .before .args .event)) ≡ true)
+    × (c .before .e .given .0 .0 ≡ event (now (c .before .before .before .before .before .before .before .before .before .before .before .args .event)))
+valid c = valid-event-read _ _ (sym (c .before .before .before .read-event .ensures) ∙ c .before .e .given .1)
+
+-- the answer that context and event alone give
+told : (c : tie.After-answer-to-event)
+    → c .answer-to-event .result
+    ≡ event-answer (c .before .before .before .before .before .before .before .before .before .before .before .before .args .c)
+    (event (now (c .before .before .before .before .before .before .before .before .before .before .before .before .args .event)))
+told c = c .answer-to-event .ensures ∙ ap (event-answer _) (valid (c .before) .1)
 
 returns-5 : tie.Need-returns-5
 returns-5 c =
-    let a = c .before .before .before .before .before .before .before .before .before .before .before .before .before .before .before .args in
-    let fit = sym (c .before .before .before .before .before .before .before .before .before .before .before .before .is-in-range .ensures) ∙ not-false _ (c .before .before .before .before .before .before .before .before .before .before .before .if1 .left) in
-    let made = read (c .before .before .before .before .before .before .before) in
-    let one = one-record-made (now (a .bytes)) (made .0) (sym (made .1 .1) ∙ c .before .before .before .before .before .before .if2 .left) in
-    let valid = valid-event-read (now (a .event)) _ (sym (c .before .before .before .before .before .read-event .ensures) ∙ c .before .before .before .e .given .1) in
-    let is = c .before .answer-to-event .ensures ∙ ap (event-answer (a .c)) (valid .1) in
-    let some = c .if3 .taken in
+    let a = c .before .before .before .before .before .before .before .before .before .before .before .before .before .args in
+    let c3 = c .before .before .before .before .before .before in
+    let is = told (c .before) in
     explanation-refused (a .c) (now (a .bytes)) (now (a .event)) _
-    (explained-event (a .c) (now (a .bytes)) (now (a .event)) fit one (valid .0) (λ z. some (is ∙ z)) ∙ sym is)
-    some
+    (explained-event (a .c) (now (a .bytes)) (now (a .event)) (fit (c3 .before .before .before)) (one c3) (valid (c .before .before) .0) (λ z. c .if4 .taken (is ∙ z))
+    ∙ sym is)
+    (c .if4 .taken)
+
+reason-requires : tie.Need-reason-requires
+reason-requires c κs = held-record-length _ (some (c .before .before .before .before .before .before .before))
 
 returns-6 : tie.Need-returns-6
 returns-6 c =
-    let a = c .before .before .before .before .before .before .before .before .before .before .before .before .before .before .before .before .before .args in
-    let fit = sym (c .before .before .before .before .before .before .before .before .before .before .before .before .before .before .is-in-range .ensures) ∙ not-false _ (c .before .before .before .before .before .before .before .before .before .before .before .before .before .if1 .left) in
-    let made = read (c .before .before .before .before .before .before .before .before .before) in
-    let one = one-record-made (now (a .bytes)) (made .0) (sym (made .1 .1) ∙ c .before .before .before .before .before .before .before .before .if2 .left) in
-    let valid = valid-event-read (now (a .event)) _ (sym (c .before .before .before .before .before .before .before .read-event .ensures) ∙ c .before .before .before .before .before .e .given .1) in
-    let is = c .before .before .before .answer-to-event .ensures ∙ ap (event-answer (a .c)) (valid .1) in
-    let accepted = explained-accepted (a .c) (now (a .bytes)) (now (a .event)) fit one (valid .0) (sym is ∙ c .before .before .if3 .left) in
-    c .first-reason .ensures
-    ∙ ap first-reason (c .before .event-failed .ensures ∙ ap₂ (failed (a .c)) (valid .1) (made .1 .0))
+    let a = c .before .before .before .before .before .before .before .before .before .before .before .before .before .before .args in
+    let c4 = c .before in
+    let c3 = c4 .before .before .before .before .before .before in
+    let accepted =
+    explained-accepted (a .c) (now (a .bytes)) (now (a .event)) (fit (c3 .before .before .before)) (one c3) (valid (c4 .before .before) .0)
+    (sym (told (c4 .before)) ∙ c4 .if4 .left) in
+    ap Accepted (c .reason .ensures ∙ ap (λ e. reason (a .c) e (mapping (now (a .bytes)))) (valid (c4 .before .before) .1))
     ∙ explanation-accepted (a .c) (now (a .bytes)) (now (a .event)) accepted
 
 pub explain-spec : {M : Type 1} → statement M
 explain-spec =
     tie.close
     (tie.spec
-    (λ c κs. tt) returns
-    (λ c κs. tt) (λ c. search needs) (λ c. search needs) returns-2 returns-3
-    (λ c κs. tt) (λ c. search needs) (λ c. search needs) returns-4
-    (λ c κs. tt) returns-5
-    (λ c κs. tt) (λ c κs. tt) returns-6)
+    (λ c κs. tt)
+    returns
+    (λ c κs. tt)
+    returns-2
+    returns-3
+    (λ c κs. tt)
+    (λ c. search needs)
+    (λ c. search needs)
+    returns-4
+    (λ c κs. tt)
+    returns-5
+    reason-requires
+    returns-6)

@@ -11,10 +11,11 @@ use Rattle.model.specs.declared.Context.{Context}
 use Rattle.model.specs.Events.{valid-event}
 use Rattle.model.specs.Answers.{answer}
 use Rattle.model.specs.Tables.{records, only}
-use Rattle.model.specs.Steps.{in-scope, new-table, stepped, written}
+use Rattle.model.specs.Steps.{in-scope, new-table, accepted-step, stepped, written}
+use Rattle.laws.specs.Buffers.{take-put-front}
 use Rattle.laws.specs.Tables.{only-append, only-swap}
 use Rattle.laws.specs.Answers.{accepted-parts}
-use Rattle.laws.specs.Steps.{creation, new-records, records-new-table, take-overwritten, stepped-answer, stepped-accepted}
+use Rattle.laws.specs.Steps.{creation, new-records, records-new-table, stepped-answer, stepped-accepted}
 use Rattle.runs.specs.Runs.{Run, run-answer, run-after, run-of}
 use Rattle.runs.specs.Apart.{of-vpid, of-ep4ta, Alike, table-after, Together, Apart, renters-apart}
 use Rattle.runs.specs.Laws.Steps.{by-answer, run-after-accepted, run-after-refused, run-accepted-valid}
@@ -32,8 +33,8 @@ module _ (test : List ℕ → Bool) where
 
   -- the new table of an accepted step
   table-after-accepted : (c : Context) (t e buffer : List ℕ) → answer c t e (length buffer) ≡ 0 → table-after c t e buffer ≡ new-table c t e
-  unfolding table-after written
-  table-after-accepted c t e buffer none = rw (stepped-accepted c t e (length buffer) none, none) (take-overwritten (new-table c t e) buffer)
+  unfolding table-after written accepted-step
+  table-after-accepted c t e buffer none = rw (stepped-accepted c t e (length buffer) none, none) (take-put-front (new-table c t e) buffer)
 
   alike-step : (c : Context) (t t′ e buffer buffer′ : List ℕ)
       → stepped c t e (length buffer) .answer ≡ 0

@@ -17,10 +17,11 @@ use Rattle.model.specs.Answers.{answer}
 use Rattle.model.specs.Steps.{in-scope}
 use Rattle.model.specs.Lookups.{usable, usable-records}
 use Rattle.runs.specs.Runs.{Run, started, run-answer, run-after, run-report, run-reports, run-states, without, run-without, InOrderPart, second-gaps, second-reports, refused-for-room, UsableWithin, Compared, none, more, verdict, SecondRun}
+use Rattle.laws.specs.Buffers.{length-put-least}
 use Rattle.laws.specs.Tables.{records-valid, records-joined, joined-whole, whole-joined, length-joined-records}
 use Rattle.laws.specs.Answers.{answer-shorter}
 use Rattle.runs.specs.Laws.Parts.{every-without, length-joined-without, part-refl, part-trans, part-only, part-append}
-use Rattle.laws.specs.Steps.{creation, new-records, records-new-table, length-overwritten}
+use Rattle.laws.specs.Steps.{creation, new-records, records-new-table}
 use Rattle.runs.specs.Laws.Steps.{by-answer, run-after-accepted, run-after-refused, run-report-accepted, run-report-refused, Sound, sound-started, sound-answer, run-accepted-valid, sound-after, room-refuses-creations}
 
 -- a run beside the full one: the same context, and a part of its records
@@ -51,7 +52,7 @@ sound-without gone s k =
             short =
                 omega (arith, length-joined-without gone (records (s .table)), length-joined-records (s .table), k .tabled .short);
           };
-      front = omega (arith, k .front, length-overwritten (joined (without gone (records (s .table)))) (s .front));
+      front = omega (arith, k .front, length-put-least 0 (joined (without gone (records (s .table)))) (s .front));
       back = k .back;
     }
 

@@ -6,18 +6,20 @@ use mathlib.Core.List.{List}
 use native.Mathlib.Omega.{arith}
 use lib.ListN.{length}
 use borrow.Author.Tests.{ltb-true, ne-eqb}
+use Rattle.model.specs.Buffers.{put}
 use Rattle.model.specs.declared.Context.{Context}
 use Rattle.model.specs.Tables.{limit, whole, joined}
 use Rattle.model.specs.Events.{event, valid-event}
 use Rattle.model.specs.Scopes.{next-context}
 use Rattle.model.specs.Layouts.{kind-of, mapping-kind}
 use Rattle.model.specs.Answers.{answer, created, no-room}
-use Rattle.model.specs.Steps.{new-table, dropped-count, overwritten, written}
+use Rattle.model.specs.Steps.{new-table, dropped-count, accepted-step, refused-step, written}
 use Rattle.runs.specs.Runs.{Run, started, run-answer, run-written, run-after, run-report}
 use Rattle.laws.specs.Tables.{joined-whole}
 use Rattle.laws.specs.Answers.{accepted-parts, answer-room, answer-no-room}
+use Rattle.laws.specs.Buffers.{take-put-front, length-put-least}
 use Rattle.laws.specs.Lists.{none}
-use Rattle.laws.specs.Steps.{new-table-whole, length-new-table, take-overwritten, length-overwritten, stepped-answer, stepped-accepted, stepped-refused}
+use Rattle.laws.specs.Steps.{new-table-whole, length-new-table, stepped-answer, stepped-accepted, stepped-refused}
 
 -- an answer accepts, as 0, or refuses
 pub by-answer : {P : Type 0} (n : ℕ) → (n ≡ 0 → P) → ((n ≡ 0 → ⊥) → P) → P
@@ -35,17 +37,17 @@ pub run-after-accepted : (s : Run) (e : List ℕ) → run-answer s e ≡ 0
     ≡ record {
       context = next-context (s .context) (event e);
       table = new-table (s .context) (s .table) e;
-      front = overwritten (new-table (s .context) (s .table) e) (s .back);
+      front = put 0 (new-table (s .context) (s .table) e) (s .back);
       back = s .front;
     }
-unfolding run-after run-written written
+unfolding run-after run-written written accepted-step
 run-after-accepted s e h =
     let z : answer (s .context) (s .table) e (length (s .back)) ≡ 0 = sym (run-answer-is s e) ∙ h in
-    rw (h, stepped-accepted (s .context) (s .table) e (length (s .back)) z, z, take-overwritten)
+    rw (h, stepped-accepted (s .context) (s .table) e (length (s .back)) z, z, take-put-front)
 
 -- a refused event leaves the run as it was
 pub run-after-refused : (s : Run) (e : List ℕ) → (run-answer s e ≡ 0 → ⊥) → run-after s e ≡ s
-unfolding run-after run-written written
+unfolding run-after run-written written refused-step
 run-after-refused s e h =
     let refused : answer (s .context) (s .table) e (length (s .back)) ≡ 0 → ⊥ = λ z. h (run-answer-is s e ∙ z) in
     rw (ne-eqb (run-answer s e) 0 h, stepped-refused (s .context) (s .table) e (length (s .back)) refused, ne-eqb (answer (s .context) (s .table) e (length (s .back))) 0 refused)
@@ -58,13 +60,13 @@ pub run-report-accepted : (s : Run) (e : List ℕ) → run-answer s e ≡ 0
       dropped = dropped-count (s .context) (s .table) e;
       context = next-context (s .context) (event e);
     }
-unfolding run-report run-answer
+unfolding run-report run-answer accepted-step
 run-report-accepted s e h =
     rw (stepped-accepted (s .context) (s .table) e (length (s .back)) (sym (run-answer-is s e) ∙ h), h)
 
 pub run-report-refused : (s : Run) (e : List ℕ) → (run-answer s e ≡ 0 → ⊥)
     → run-report s e ≡ record { answer = run-answer s e; dropped = 0; context = s .context }
-unfolding run-report run-answer
+unfolding run-report run-answer refused-step
 run-report-refused s e h =
     rw (stepped-refused (s .context) (s .table) e (length (s .back)) (λ z. h (run-answer-is s e ∙ z)))
 
@@ -117,7 +119,7 @@ sound-after s e k = by-answer (run-answer s e) accepted (λ h. rw (run-after-ref
         rw (run-after-accepted s e h)
         (record {
           tabled = rw (run-after-accepted s e h) at after;
-          front = omega (arith, k .back, length-overwritten (new-table (s .context) (s .table) e) (s .back));
+          front = omega (arith, k .back, length-put-least 0 (new-table (s .context) (s .table) e) (s .back));
           back = k .front;
         })
 

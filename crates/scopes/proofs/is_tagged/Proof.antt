@@ -4,7 +4,7 @@ use Rattle.scopes.proofs.is_tagged.Statement.{statement}
 use Rattle.scopes.proofs.is_tagged.Tie as tie
 
 returns : tie.Need-returns
-returns c = rw (c .kind .ensures)
+returns c = rw (c .before .is-linear .ensures, c .is-combined .ensures, c .before .before .kind .ensures)
 
 pub is-tagged-spec : {M : Type 1} → statement M
-is-tagged-spec = tie.close (tie.spec (λ c κs. search needs) returns)
+is-tagged-spec = tie.close (tie.spec (λ c κs. search needs) (λ c κs. tt) (λ c κs. tt) returns)

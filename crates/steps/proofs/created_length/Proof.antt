@@ -2,7 +2,7 @@
 use borrow.Author.Needs.{needs}
 use mathlib.Core.Path.{sym, ap, _∙_}
 use lib.ListN.{length}
-use Rattle.steps.proofs.Laws.{created-creation, created-other}
+use Rattle.laws.specs.Steps.{created-creation, created-other}
 use Rattle.steps.proofs.created_length.Statement.{statement}
 use Rattle.steps.proofs.created_length.Tie as tie
 

@@ -1,43 +1,30 @@
 -- The first ground that applies: each early return is one row of the grounds. Past them all, the walk
 -- counted every record.
-use Prim.Native.Nat.{ℕ, _<_}
-use mathlib.Core.List.{List}
-use mathlib.Core.Path.{_≡_, sym, _∙_}
+use mathlib.Core.Path.{sym, _∙_}
 use native.Mathlib.Omega.{arith}
 use borrow.Author.Needs.{needs}
 use borrow.Author.Tests.{lt-ltb, le-ltb, ne-eqb, eq-eqb}
-use lib.ListN.{length}
-use Rattle.model.specs.declared.Context.{Context}
 use Rattle.model.specs.Answers.{first, table-grounds}
-use Rattle.model.specs.Tables.{whole, records}
-use Rattle.tables.specs.Judged.{judged-records, judged-records-whole, judged-records-refused}
+use Rattle.model.specs.Tables.{whole}
+use Rattle.tables.specs.Laws.Judged.{judged-refused, judged-accepted}
 use Rattle.tables.proofs.judge.Statement.{statement}
 use Rattle.tables.proofs.judge.Tie as tie
-
--- a table that is refused, and one that is not
-refused : (c : Context) (t : List ℕ) {n : ℕ} → n ≡ first (table-grounds c t) → 0 < n
-    → (n ≡ first (table-grounds c t)) × (_≡_ {A = ℕ} 0 (judged-records c t))
-refused c t is some = (is, sym (judged-records-refused c t (λ none. omega (arith, is, none, some))))
-
-accepted : (c : Context) (t : List ℕ) {n : ℕ} → _≡_ {A = ℕ} 0 (first (table-grounds c t)) → n ≡ length (records t)
-    → (_≡_ {A = ℕ} 0 (first (table-grounds c t))) × (n ≡ judged-records c t)
-accepted c t is counted = (is, counted ∙ sym (judged-records-whole c t (sym is)))
 
 returns : tie.Need-returns
 unfolding first table-grounds
 returns c =
-    refused _ _ (rw (← c .before .is-in-range .ensures, c .if1 .taken)) (omega arith)
+    judged-refused _ _ (rw (← c .before .is-in-range .ensures, c .if1 .taken)) (omega arith)
 
 returns-2 : tie.Need-returns-2
 unfolding first table-grounds
 returns-2 c =
-    refused _ _ (rw (← c .before .before .is-in-range .ensures, c .before .if1 .left, lt-ltb _ _ (c .if2 .taken))) (omega arith)
+    judged-refused _ _ (rw (← c .before .before .is-in-range .ensures, c .before .if1 .left, lt-ltb _ _ (c .if2 .taken))) (omega arith)
 
 returns-3 : tie.Need-returns-3
 unfolding first table-grounds whole
 returns-3 c =
     let c3 = c .before .before .before in
-    refused _ _
+    judged-refused _ _
     (rw
     (← c3 .before .before .is-in-range .ensures, c3 .before .if1 .left, le-ltb _ _ (c3 .if2 .left), ne-eqb _ _ (λ e. c .if3 .taken (c .before .before .walk .ensures .bytes ∙ e))))
     (omega arith)
@@ -47,7 +34,7 @@ unfolding first table-grounds whole
 returns-4 c =
     let c3 = c .before .before .before in
     let told = c .before .before .walk .ensures in
-    accepted _ _
+    judged-accepted _ _
     (rw
     (← c3 .before .before .is-in-range .ensures, c3 .before .if1 .left, le-ltb _ _ (c3 .if2 .left), eq-eqb _ _ (sym (told .bytes) ∙ c .if3 .left)))
     (told .records)

@@ -4,7 +4,7 @@ use Prim.Native.Nat.{_-_}
 use native.Mathlib.Omega.{arith}
 use borrow.Author.Needs.{needs}
 use lib.ListN.{length}
-use Rattle.tables.specs.Walk.{Walked, walk-start, walk-on, walk-stop, walk-end}
+use Rattle.tables.specs.Laws.Walk.{Walked, walk-start, walk-on, walk-stop, walk-end}
 use Rattle.tables.proofs.walk.Statement.{statement}
 use Rattle.tables.proofs.walk.Tie as tie
 

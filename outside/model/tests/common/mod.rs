@@ -16,6 +16,11 @@ pub const G: [u8; 17] = [
     0x00,
 ];
 
+pub const EP4TA: u64 = 0x123_4567;
+
+/// A good EPTP with this EP4TA.
+pub const EPTP: u64 = EP4TA << 12 | 0x1E;
+
 /// An address that is not canonical.
 pub const ODD: u64 = 0x0000_8000_0000_0000;
 
@@ -50,7 +55,7 @@ pub fn m(kind: u64) -> M {
         global: 0,
         span: if kind <= 3 { 0 } else { 1 },
         page: 0,
-        ep4ta: 0x123_4567,
+        ep4ta: EP4TA,
     }
 }
 
@@ -72,6 +77,16 @@ impl M {
             _ => bytes(&[kind, ep4ta, span, page, frame]),
         }
     }
+}
+
+/// A record that can be created outside VMX.
+pub fn m_outside(kind: u64) -> Vec<u8> {
+    M {
+        vpid: 0,
+        pcid: 0,
+        ..m(kind)
+    }
+    .bytes()
 }
 
 pub fn invvpid(kind: u64, low: u64, address: u64) -> Vec<u8> {
@@ -134,6 +149,11 @@ pub fn guest(vpid: u64, ept: Option<u64>) -> Context {
         place: Place::Guest { vpid, ept },
         ..Context::program()
     }
+}
+
+/// VPID 5, with EPT on.
+pub fn ept_guest() -> Context {
+    guest(5, Some(EP4TA))
 }
 
 pub fn with_cpl(context: Context, cpl: u64) -> Context {

@@ -1,0 +1,2 @@
+-- The laws about the numbers in code.
+pub mod Places

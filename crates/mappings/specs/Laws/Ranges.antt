@@ -1,0 +1,58 @@
+-- Which tests say that the fields of a held record are in their ranges.
+use Prim.Native.Nat.{ℕ, _≤_}
+use mathlib.Core.Bool.{Bool, true, false, cond, not, _&&_, _||_, and-true, and-false, and-eq-true-iff, Bool·not-not}
+use mathlib.Core.List.{List}
+use mathlib.Core.Path.{_≡_, refl, sym}
+use native.Mathlib.Omega.{arith}
+use borrow.Author.Tests.{leb-true}
+use lib.Dec.{eqb, leb, leb·zero}
+use Rattle.model.specs.Bits.{number}
+use Rattle.model.specs.Layouts.{kind-of}
+use Rattle.model.specs.Mappings.{mapping, Held, guest-physical, structure-cache, global-marked, global-translation, span-in-range, page-in-range, fields-in-range}
+use Rattle.model.specs.declared.Mapping.{Mapping}
+use Rattle.laws.specs.Mappings.{pcid-held, global-held}
+
+-- a span in its kind's range is at most 3
+pub span-below : (k s : ℕ) → span-in-range k s ≡ true → s ≤ 3
+span-below k s = go (structure-cache k)
+  where
+    go : (b : Bool) → cond b (leb 1 s && leb s 3) (leb s 2) ≡ true → s ≤ 3
+    go true e = leb-true s 3 (and-eq-true-iff (leb 1 s) (leb s 3) .0 e .1)
+    go false e = omega (arith, leb-true s 2 e)
+
+-- a span out of its range puts the fields out of theirs
+pub ranges-off : (m : Mapping) → span-in-range (m .kind) (m .span) ≡ false → fields-in-range m ≡ false
+unfolding fields-in-range
+ranges-off m off = rw (off, and-false)
+
+-- a field that a kind lacks is 0, and so in its range and no mark
+leb-where : (b : Bool) (x n : ℕ) → (not b || leb x n) ≡ leb (cond b x 0) n
+leb-where true x n = refl
+leb-where false x n = sym (leb·zero n)
+
+eqb-and : (b : Bool) (x : ℕ) → (b && eqb x 1) ≡ (b && eqb (cond b x 0) 1)
+eqb-and true x = refl
+eqb-and false x = refl
+
+module _ (r : List ℕ) (held : Held r) where
+  -- the other fields' ranges, by tests of the kind and of the bytes where some kinds have the fields
+  pub ranges-tests : span-in-range (mapping r .kind) (mapping r .span) ≡ true
+      → ((not (global-marked (mapping r .kind)) || leb (number 1 5 r) 1)
+      && (guest-physical (mapping r .kind) || leb (number 2 3 r) 4095)
+      && page-in-range (mapping r .span) (mapping r .page))
+      ≡ fields-in-range (mapping r)
+  unfolding fields-in-range
+  ranges-tests on =
+      rw (
+        leb-where (global-marked (mapping r .kind)) (number 1 5 r) 1,
+        ← Bool·not-not (guest-physical (mapping r .kind)),
+        leb-where (not (guest-physical (mapping r .kind))) (number 2 3 r) 4095,
+        on,
+        global-held r held,
+        pcid-held r held,
+        and-true,
+      )
+
+  pub global-tests : (global-marked (mapping r .kind) && eqb (number 1 5 r) 1) ≡ global-translation (mapping r)
+  unfolding mapping
+  global-tests = rw (global-held r held) (eqb-and (global-marked (kind-of r)) (number 1 5 r))

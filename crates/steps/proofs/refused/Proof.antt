@@ -1,0 +1,11 @@
+use mathlib.Core.Path.{refl}
+use Rattle.model.specs.Steps.{refused-step}
+use Rattle.steps.proofs.refused.Statement.{statement}
+use Rattle.steps.proofs.refused.Tie as tie
+
+returns : tie.Need-returns
+unfolding refused-step
+returns c = refl
+
+pub refused-spec : {M : Type 1} → statement M
+refused-spec = tie.close (tie.spec returns)

@@ -1,0 +1,196 @@
+//! The header and the example in C, built with `cc` if there is one.
+
+use common::KINDS;
+use model::Reason;
+use std::env::temp_dir;
+use std::fs;
+use std::path::{Path, PathBuf};
+use std::process::{id, Command, Output};
+
+const PRINTED: &str = "\
+1 0 0 0
+2 0 0 0
+3 0 0 17
+12345678h: the record just created
+4 0 0 17
+INVVPID: takes the record
+5 0 1 0
+";
+
+/// The output of a program; None if there is no such program.
+fn run(program: &Path, words: &[&str]) -> Option<Output> {
+    Command::new(program).args(words).output().ok()
+}
+
+fn folder() -> PathBuf {
+    Path::new(env!("CARGO_MANIFEST_DIR")).join("../c")
+}
+
+/// A file that is removed in the end.
+struct Temporary(PathBuf);
+
+impl Temporary {
+    fn new(name: &str) -> Temporary {
+        Temporary(temp_dir().join(format!("skuldrefn-{}-{name}", id())))
+    }
+}
+
+impl Drop for Temporary {
+    fn drop(&mut self) {
+        // It may never have been made.
+        let _ = fs::remove_file(&self.0);
+    }
+}
+
+#[test]
+fn the_example_runs() {
+    let cc = Path::new("cc");
+    if run(cc, &["--version"]).is_none() {
+        println!("there is no cc; nothing was built");
+        return;
+    }
+    let program = Temporary::new("example");
+    let source = folder().join("example.c");
+    let include = format!("-I{}", folder().display());
+    let library = Path::new(skuldrefn::LIBRARY).join("libskuldrefn.a");
+    let built = Command::new(cc)
+        .args([
+            "-std=c99",
+            "-Wall",
+            "-Wextra",
+            "-Werror",
+            "-pedantic",
+            "-O2",
+        ])
+        .arg(include)
+        .arg(source)
+        .arg(library)
+        .arg("-o")
+        .arg(&program.0)
+        .output()
+        .expect("cc starts");
+    let said = String::from_utf8_lossy(&built.stderr);
+    assert!(built.status.success(), "{said}");
+    let output = run(&program.0, &[]).expect("the example starts");
+    assert_eq!(String::from_utf8_lossy(&output.stdout), PRINTED);
+    assert!(output.status.success());
+}
+
+fn header() -> String {
+    fs::read_to_string(folder().join("skuldrefn.h")).expect("the header")
+}
+
+/// The numbers in the header are those of the papers.
+#[test]
+fn the_header_names_every_answer() {
+    let header = header();
+    for answer in 0..=12 {
+        let number = format!("= {answer}, ");
+        let last = format!("= {answer} ");
+        assert!(
+            header.contains(&number) || header.contains(&last),
+            "{answer}"
+        );
+    }
+}
+
+#[test]
+fn the_header_has_the_limits_and_the_programs_numbers() {
+    let header = header();
+    for (name, number) in [
+        ("TABLE_LIMIT", model::TABLE_LIMIT.to_string()),
+        ("LOG_LIMIT", model::LOG_LIMIT.to_string()),
+        ("ROW", common::ROW.to_string()),
+        (
+            "PROGRAM_CAPABILITY",
+            format!("UINT64_C({:#X})", model::PROGRAM_CAPABILITY).replace("0X", "0x"),
+        ),
+        ("PROGRAM_WIDTH", model::PROGRAM_WIDTH.to_string()),
+        ("EVENT_LIMIT", longest().to_string()),
+    ] {
+        let line = format!("#define SKULDREFN_{name} {number}\n");
+        assert!(header.contains(&line), "{line}");
+    }
+    assert_eq!(skuldrefn::TABLE_LIMIT, model::TABLE_LIMIT);
+    assert_eq!(skuldrefn::LOG_LIMIT, model::LOG_LIMIT);
+    assert_eq!(skuldrefn::ROW, common::ROW);
+    assert_eq!(skuldrefn::PROGRAM_CAPABILITY, model::PROGRAM_CAPABILITY);
+    assert_eq!(skuldrefn::PROGRAM_WIDTH, model::PROGRAM_WIDTH);
+}
+
+fn longest() -> usize {
+    let lengths = KINDS.map(model::event::length);
+    lengths.into_iter().flatten().max().expect("a kind")
+}
+
+/// Each kind has a line: its number, its length, and where each field starts.
+#[test]
+fn the_header_has_every_layout() {
+    let header = header();
+    let mut found = 0;
+    for line in header.lines() {
+        let Some((name, rest)) = line.trim().split_once(" = ") else {
+            continue;
+        };
+        if !name.starts_with("SKULDREFN_KIND_") {
+            continue;
+        }
+        let (kind, layout) = rest.split_once(" /* ").expect("a layout");
+        let kind: u8 = kind.trim_end_matches(',').parse().expect("a kind");
+        let layout = layout.trim_end_matches(" */");
+        let (length, fields) = layout.split_once(": ").unwrap_or((layout, ""));
+        let length: usize = length.parse().expect("a length");
+        assert_eq!(Some(length), model::event::length(kind), "{line}");
+        let starts: Vec<usize> = fields
+            .split(", ")
+            .filter(|field| !field.is_empty())
+            .map(|field| field.rsplit(' ').next().expect("a start").parse())
+            .collect::<Result<_, _>>()
+            .expect("starts");
+        let mut start = 1;
+        let mut due = Vec::new();
+        for size in common::sizes(kind).expect("a kind") {
+            due.push(start);
+            start += size;
+        }
+        assert_eq!(starts, due, "{line}");
+        found += 1;
+    }
+    assert_eq!(found, KINDS.len());
+}
+
+/// The library tells the length of every kind.
+#[test]
+fn lengths() {
+    for kind in 0..=255 {
+        let due = model::event::length(kind).unwrap_or(0);
+        for rest in [0, 1, 30] {
+            let log = [&[kind][..], &vec![0xA5; rest]].concat();
+            assert_eq!(skuldrefn::event_length(&log), due, "kind {kind}");
+        }
+    }
+}
+
+#[test]
+fn the_header_names_every_reason() {
+    let header = header();
+    for (name, reason) in [
+        ("REFUSED", Reason::Refused(4)),
+        ("NO_SCOPE", Reason::NoScope),
+        ("NOT_CANONICAL", Reason::NotCanonical),
+        ("WRONG_KIND", Reason::WrongKind),
+        ("WRONG_VPID", Reason::WrongVpid),
+        ("WRONG_PCID", Reason::WrongPcid),
+        ("WRONG_EP4TA", Reason::WrongEp4ta),
+        ("NOT_COVERING", Reason::NotCovering),
+        ("SPARED_AS_GLOBAL", Reason::SparedAsGlobal),
+        ("IN_SCOPE", Reason::InScope),
+    ] {
+        let line = format!("    SKULDREFN_{name} = {}", reason.number());
+        let found = header.lines().find_map(|own| own.strip_prefix(&line));
+        assert!(
+            found.is_some_and(|rest| rest.starts_with([',', ' '])),
+            "{line}"
+        );
+    }
+}

@@ -1,0 +1,143 @@
+//! The numbers and the layouts here are those of the model, which has its own.
+
+use common::{
+    canonical, encode, field, hex, is_mapping_kind, length, number, put, read_row, set_field,
+    write_row, Record, CAPABILITY_BITS, KINDS, ROW,
+};
+use model::event::Event;
+use model::mapping::Mapping;
+
+#[test]
+fn the_limits_and_the_programs_numbers() {
+    assert_eq!(common::TABLE_LIMIT, model::TABLE_LIMIT);
+    assert_eq!(common::LOG_LIMIT, model::LOG_LIMIT);
+    assert_eq!(common::PROGRAM_CAPABILITY, model::PROGRAM_CAPABILITY);
+    assert_eq!(common::PROGRAM_WIDTH, model::PROGRAM_WIDTH);
+    let ones = model::PROGRAM_CAPABILITY.count_ones();
+    assert_eq!(CAPABILITY_BITS.len(), ones as usize);
+}
+
+#[test]
+fn the_lengths_of_all_kinds() {
+    for kind in 0..=255 {
+        assert_eq!(length(kind), model::event::length(kind), "kind {kind}");
+        let mapping = model::mapping::length(kind).is_some();
+        assert_eq!(is_mapping_kind(kind), mapping, "kind {kind}");
+        assert_eq!(KINDS.contains(&kind), length(kind).is_some(), "kind {kind}");
+    }
+}
+
+#[test]
+fn records() {
+    for kind in 1..=6 {
+        let record = Record {
+            kind,
+            vpid: 0x0105,
+            pcid: 0x203,
+            global: 1,
+            span: 1,
+            page: 0x8_1234_5600,
+            frame: 0xAB_CDEF_0123,
+            ep4ta: 0x76_5432_10FE,
+        };
+        let read = Mapping::decode(&record.bytes()).expect("a valid record");
+        let (linear, physical) = (kind != 2 && kind != 5, kind != 1 && kind != 4);
+        let due = Mapping {
+            kind: kind.into(),
+            vpid: linear.then_some(record.vpid),
+            pcid: linear.then_some(record.pcid),
+            global: kind == 1 || kind == 3,
+            span: record.span,
+            page: record.page,
+            frame: record.frame,
+            ep4ta: physical.then_some(record.ep4ta),
+        };
+        assert_eq!(read, due);
+    }
+}
+
+#[test]
+fn events() {
+    let (kind, low, high) = (3, 0x1234_5678_9ABC_DEF0, 0x0FED_CBA9_8765_4321);
+    for (bytes, due) in [
+        (
+            encode(16, &[kind, low, high]),
+            Event::Invvpid { kind, low, high },
+        ),
+        (
+            encode(17, &[kind, low, high]),
+            Event::Invept { kind, low, high },
+        ),
+        (encode(18, &[low]), Event::Invlpg { address: low }),
+        (
+            encode(19, &[0x1234, 1, 0x5678]),
+            Event::EptViolation {
+                guest_physical: 0x1234,
+                linear: Some(0x5678),
+            },
+        ),
+        (
+            encode(20, &[1, 0x0105, 1, low, 0x203, 3]),
+            Event::Entry {
+                vpid: Some(0x0105),
+                eptp: Some(low),
+                pcid: 0x203,
+                cpl: 3,
+            },
+        ),
+        (encode(21, &[0x203]), Event::Exit { pcid: 0x203 }),
+        (encode(22, &[]), Event::Vmxon),
+        (encode(23, &[]), Event::Vmxoff),
+        (
+            encode(24, &[0x203, 3]),
+            Event::Switch {
+                pcid: 0x203,
+                cpl: 3,
+            },
+        ),
+        (encode(25, &[]), Event::Reset),
+    ] {
+        assert_eq!(Event::decode(&bytes), Some(due));
+    }
+}
+
+#[test]
+fn fields_of_an_event() {
+    let mut entry = encode(20, &[1, 5, 0, 0x1E, 0xFFF, 3]);
+    assert_eq!(field(&entry, 1), Some(5));
+    assert_eq!(field(&entry, 4), Some(0xFFF));
+    assert_eq!(field(&entry, 6), None);
+    assert_eq!(field(&entry[..4], 1), Some(5));
+    assert_eq!(field(&entry[..3], 1), None);
+    assert_eq!(field(&[], 0), None);
+    assert_eq!(field(&[7, 0], 0), None);
+    // Cut to two bytes.
+    set_field(&mut entry, 4, 0x1_0002);
+    assert_eq!(entry, encode(20, &[1, 5, 0, 0x1E, 2, 3]));
+}
+
+#[test]
+fn numbers_there_and_back() {
+    let mut bytes = vec![0xFF];
+    put(&mut bytes, 0x1234_5678_9ABC, 5);
+    assert_eq!(bytes, [0xFF, 0xBC, 0x9A, 0x78, 0x56, 0x34]);
+    assert_eq!(hex(&bytes), "ff bc 9a 78 56 34");
+    assert_eq!(number(&bytes[1..]), 0x34_5678_9ABC);
+    assert_eq!(number(&[]), 0);
+    assert_eq!(number(&[0xFF; 8]), u64::MAX);
+    let mut row = [0xA5; ROW];
+    write_row(&mut row, [12, 0, 45_056]);
+    assert_eq!(read_row(&row), [12, 0, 45_056]);
+}
+
+#[test]
+fn canonical_addresses() {
+    for (address, due) in [
+        (0x7FFF_FFFF_F000, 0x7FFF_FFFF_F000),
+        (0x8000_0000_0000, 0xFFFF_8000_0000_0000),
+        (0xFFFF_0000_0000_0001, 1),
+    ] {
+        assert_eq!(canonical(address), due);
+        assert!(model::event::canonical(due));
+    }
+}

@@ -1,0 +1,105 @@
+//! A log to its text.
+
+use crate::forms::{Form, Rule};
+use common::{hex, number, LOG_LIMIT};
+use std::fmt::Write;
+
+/// The bytes on one `raw` line, where a log is raw to its end.
+const RAW_LINE: usize = 32;
+
+/// The text of a log; any bytes have one.
+pub fn disassemble(log: &[u8]) -> String {
+    let mut text = format!("# {} bytes\n", log.len());
+    if log.len() > LOG_LIMIT {
+        text.push_str("# longer than the replay program reads: it prints only `too long`\n");
+    }
+    let mut at = 0;
+    let mut number = 1;
+    while let Some(kind) = log.get(at) {
+        let place = format!("event {number} at byte {at}");
+        let form = Form::of_kind(*kind);
+        let event = form.and_then(|form| log.get(at..at + form.length()));
+        let (Some(form), Some(event)) = (form, event) else {
+            write_rest(&mut text, &log[at..], form, &place);
+            break;
+        };
+        match disassemble_event(form, event) {
+            Ok(line) => write_line(&mut text, &line, &place),
+            Err(reason) => {
+                let comment = format!("{place}: {}, but {reason}", form.name);
+                write_line(&mut text, &raw(event), &comment);
+            }
+        }
+        at += event.len();
+        number += 1;
+    }
+    text
+}
+
+/// What is left from an unknown kind or a cut record on.
+fn write_rest(text: &mut String, rest: &[u8], form: Option<&Form>, place: &str) {
+    let reason = match form {
+        None => format!("unknown kind {:#x}", rest[0]),
+        Some(form) => format!(
+            "{} cut to {} of {} bytes",
+            form.name,
+            rest.len(),
+            form.length()
+        ),
+    };
+    let mut comment = format!("{place}: {reason}, a replay ends here");
+    for part in rest.chunks(RAW_LINE) {
+        write_line(text, &raw(part), &comment);
+        comment.clear();
+    }
+}
+
+fn write_line(text: &mut String, line: &str, comment: &str) {
+    text.push_str(line);
+    if !comment.is_empty() {
+        text.push_str("  # ");
+        text.push_str(comment);
+    }
+    text.push('\n');
+}
+
+fn raw(bytes: &[u8]) -> String {
+    format!("raw {}", hex(bytes))
+}
+
+/// The line of a whole event, or why the names cannot say it.
+fn disassemble_event(form: &Form, event: &[u8]) -> Result<String, String> {
+    let mut line = form.name.to_string();
+    let mut rest = &event[1..];
+    let mut before = 0;
+    for field in form.fields {
+        let flag = if field.optional {
+            take(&mut rest, 1)
+        } else {
+            1
+        };
+        let number = take(&mut rest, field.bytes);
+        match flag {
+            0 if number != 0 => return Err(format!("{} is off and not zero", field.name)),
+            0 => {
+                let _ = write!(line, " {}=off", field.name);
+            }
+            1 => {
+                field.check(number, before)?;
+                if field.rule != Rule::Zero {
+                    let _ = write!(line, " {}={number:#x}", field.name);
+                }
+            }
+            _ => return Err(format!("the flag of {} is at most 0x1", field.name)),
+        }
+        before = number;
+    }
+    Ok(line)
+}
+
+/// The next field of a whole event.
+fn take(rest: &mut &[u8], bytes: usize) -> u64 {
+    let (field, after) = rest.split_at(bytes);
+    *rest = after;
+    number(field)
+}

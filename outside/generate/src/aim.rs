@@ -1,0 +1,145 @@
+//! Contexts and events aimed at an answer.
+
+use crate::bounds::{near, near_field};
+use crate::context::{any_context, context};
+use crate::damage::any_event;
+use crate::event::{event, event_of_kind};
+use crate::fitting::fitting;
+use crate::pool;
+use crate::Rng;
+use common::{set_field, PROGRAM_CAPABILITY, PROGRAM_WIDTH};
+use model::{Context, Place};
+
+/// A context and a valid event on which the answer aimed at is likely.
+pub fn aimed(rng: &mut Rng, aim: usize) -> (Context, Vec<u8>) {
+    match aim {
+        5 => undefined(rng),
+        6 => {
+            let context = guest(rng);
+            let kind = rng.pick(&[16, 17, 20, 22, 23]);
+            let event = event_of_kind(rng, &context, kind);
+            (context, event)
+        }
+        7 => {
+            let mut context = context(rng);
+            context.cpl = 1 + rng.below(3) as u64;
+            let kind = rng.pick(&[16, 17, 18, 18, 20, 22, 23]);
+            let event = event_of_kind(rng, &context, kind);
+            (context, event)
+        }
+        8 => {
+            let context = root(rng);
+            let kind = rng.pick(&[16, 17]);
+            let event = event_of_kind(rng, &context, kind);
+            (context, near(rng, &event))
+        }
+        9 => {
+            let mut context = context(rng);
+            context.cpl = 0;
+            let kind = rng.pick(&[19, 21, 22]);
+            let event = event_of_kind(rng, &context, kind);
+            (context, event)
+        }
+        10 => {
+            let context = root(rng);
+            let event = bad_entry(rng, &context);
+            (context, event)
+        }
+        11 => {
+            let context = context(rng);
+            let kind = 1 + rng.below(6) as u8;
+            let event = event_of_kind(rng, &context, kind);
+            (context, event)
+        }
+        13 => {
+            let context = any_context(rng);
+            let event = any_event(rng, &context);
+            (context, event)
+        }
+        14 => {
+            let context = context(rng);
+            let event = event(rng, &context);
+            (context, event)
+        }
+        15 | 16 => dropping(rng),
+        _ => fitted(rng),
+    }
+}
+
+/// An entry with its VPID or its EPTP at a bound, or any field.
+fn bad_entry(rng: &mut Rng, context: &Context) -> Vec<u8> {
+    let mut event = event_of_kind(rng, context, 20);
+    match rng.below(6) {
+        0 => near(rng, &event),
+        1 | 2 => {
+            set_field(&mut event, 0, 1);
+            near_field(rng, &event, 1)
+        }
+        _ => {
+            set_field(&mut event, 2, 1);
+            near_field(rng, &event, 3)
+        }
+    }
+}
+
+/// An event that has a scope, in a context in which it should be accepted.
+pub fn dropping(rng: &mut Rng) -> (Context, Vec<u8>) {
+    let kind = rng.pick(&[16, 16, 17, 17, 18, 18, 19, 19, 20, 21, 25]);
+    let mut context = match kind {
+        16 | 17 | 20 => root(rng),
+        18 | 25 => context(rng),
+        _ => guest(rng),
+    };
+    if kind == 19 {
+        let vpid = pool::vpid(rng);
+        let ept = Some(pool::ep4ta(rng));
+        context.place = Place::Guest { vpid, ept };
+    }
+    context.cpl = 0;
+    if !rng.one_in(8) {
+        context.capability = PROGRAM_CAPABILITY;
+        context.width = PROGRAM_WIDTH;
+    }
+    let event = event_of_kind(rng, &context, kind);
+    (context, event)
+}
+
+/// A context and an event that should be accepted in it.
+fn fitted(rng: &mut Rng) -> (Context, Vec<u8>) {
+    let mut context = context(rng);
+    if !rng.one_in(8) {
+        context.capability = PROGRAM_CAPABILITY;
+        context.width = PROGRAM_WIDTH;
+    }
+    let (event, _) = fitting(rng, &context);
+    (context, event)
+}
+
+fn undefined(rng: &mut Rng) -> (Context, Vec<u8>) {
+    let mut context = context(rng);
+    let kind = rng.pick(&[16, 17, 20, 23]);
+    if kind >= 20 || rng.one_in(2) {
+        context.place = Place::Outside;
+    } else {
+        context.capability &= !(1 << 32 | 1 << 20);
+    }
+    let event = event_of_kind(rng, &context, kind);
+    (context, event)
+}
+
+fn root(rng: &mut Rng) -> Context {
+    Context {
+        cpl: 0,
+        place: Place::Root,
+        ..context(rng)
+    }
+}
+
+fn guest(rng: &mut Rng) -> Context {
+    let vpid = pool::vpid(rng);
+    let ept = rng.pick(&[None, Some(0x123_4567)]);
+    Context {
+        place: Place::Guest { vpid, ept },
+        ..context(rng)
+    }
+}

@@ -1,0 +1,15 @@
+//! The readings of the papers where they leave room for doubt, by subject. The
+//! number in a test's name is the reading's.
+
+#[path = "../common/mod.rs"]
+mod common;
+
+mod answers;
+mod ask_2;
+mod contexts;
+mod events;
+mod lookups;
+mod records;
+mod replays;
+mod runs;
+mod scopes;

@@ -1,0 +1,185 @@
+//! Skuldrefn for Rust: the proved model of the translations that a processor
+//! caches under VMX, behind safe functions.
+//!
+//! From any other workspace, one line in its Cargo.toml:
+//!
+//! ```toml
+//! skuldrefn = { path = "../skuldrefn/outside/skuldrefn" }
+//! ```
+//!
+//! The static library comes first: `./skuldrefn library`, at the top of the
+//! checkout, proves and builds it. This crate finds it there; if it is
+//! elsewhere, SKULDREFN_LIB names its folder. Linux on x86-64 only.
+//!
+//! Tables, records, events and answers are bytes and numbers as `docs/MODEL.md`
+//! and the header `outside/c/skuldrefn.h` describe them. A table and its new
+//! version stand in two buffers of the caller, which take turns:
+//!
+//! ```
+//! use skuldrefn::{lookup, step, Address, Context, Place, TABLE_LIMIT};
+//!
+//! let guest = Context {
+//!     pcid: 1,
+//!     place: Place::Guest { vpid: 5, ept: None },
+//!     ..Context::program()
+//! };
+//! // A linear translation of page 12345h: VPID 5, PCID 1, frame ABCDEh.
+//! let created = [1, 5, 0, 1, 0, 0, 0, 0x45, 0x23, 1, 0, 0, 0xDE, 0xBC, 0x0A, 0, 0];
+//! let mut table = [0; TABLE_LIMIT];
+//! let done = step(&guest, &[], &created, &mut table);
+//! assert_eq!((done.answer, done.length, done.dropped), (0, 17, 0));
+//!
+//! let at = |address| lookup(&guest, &table[..done.length], Address::Linear(address), 0);
+//! assert_eq!(at(0x1234_5678), (0, Some(0..17)));
+//! assert_eq!(at(0x1234_6000), (0, None));
+//! ```
+//!
+//! Each function comes twice: on [`Context`], and as `.._flat` on the numbers
+//! of the C interface, [`FlatContext`], where a place may be any number too.
+//! [`raw`] has the C functions themselves.
+
+mod context;
+mod logs;
+pub mod raw;
+mod reason;
+
+pub use context::{Context, Place};
+pub use logs::{event_length, events, lines, replay, replay_flat, Line, Replay};
+pub use raw::{FlatContext, FlatReason, FlatReplayed, FlatStep, Part};
+pub use reason::Reason;
+use std::ops::Range;
+
+/// The longest table, in bytes.
+pub const TABLE_LIMIT: usize = 45_056;
+
+/// The longest log that the replay program reads, in bytes.
+pub const LOG_LIMIT: usize = 65_536;
+
+/// The bytes of one row of a replay.
+pub const ROW: usize = 24;
+
+/// The replay program's IA32_VMX_EPT_VPID_CAP: bits 6, 8, 14, 20, 21, 25, 26,
+/// 32 and 40 to 43.
+pub const PROGRAM_CAPABILITY: u64 = 0x0F01_0630_4140;
+
+/// The replay program's physical width N.
+pub const PROGRAM_WIDTH: u64 = 52;
+
+/// The folder in which the build found the library.
+pub const LIBRARY: &str = env!("SKULDREFN_LIB_FOUND");
+
+/// What a step reports. A refusal hands back the context as it came, 0 and 0.
+#[derive(Clone, Copy, Debug, PartialEq, Eq)]
+pub struct Step {
+    /// 0 to 12; 0 is accepted.
+    pub answer: u64,
+    /// The context after the event.
+    pub context: Context,
+    /// The new table's length in bytes.
+    pub length: usize,
+    /// How many records went.
+    pub dropped: usize,
+}
+
+/// One event on a context and a table. The new table is written to the start
+/// of `new`, and the bytes past it stay; a refusal writes nothing.
+///
+/// # Panics
+/// If the library hands back what its contract rules out.
+pub fn step(context: &Context, table: &[u8], event: &[u8], new: &mut [u8]) -> Step {
+    let step = step_flat(&context.into(), table, event, new);
+    Step {
+        answer: step.answer,
+        context: known(&step.context),
+        length: step.length,
+        dropped: step.dropped,
+    }
+}
+
+fn known(context: &FlatContext) -> Context {
+    match context.context() {
+        Some(context) => context,
+        None => panic!("the library handed back {context:?}"),
+    }
+}
+
+/// One step, on a flat context.
+pub fn step_flat(context: &FlatContext, table: &[u8], event: &[u8], new: &mut [u8]) -> FlatStep {
+    // SAFETY: each pointer is good for its length during the call, `new` is
+    // borrowed alone, and the library keeps nothing.
+    unsafe {
+        raw::skuldrefn_step(
+            *context,
+            table.as_ptr(),
+            table.len(),
+            event.as_ptr(),
+            event.len(),
+            new.as_mut_ptr(),
+            new.len(),
+        )
+    }
+}
+
+/// What is looked up: any number of either sort.
+#[derive(Clone, Copy, Debug, PartialEq, Eq)]
+pub enum Address {
+    Linear(u64),
+    GuestPhysical(u64),
+}
+
+/// The answer, 0 to 3, and the place in the table of the k-th record, from 0,
+/// that is usable at an address.
+pub fn lookup(
+    context: &Context,
+    table: &[u8],
+    address: Address,
+    k: u64,
+) -> (u64, Option<Range<usize>>) {
+    let part = lookup_flat(&context.into(), table, address, k);
+    let place = part.start..part.start + part.length;
+    (part.answer, (part.length > 0).then_some(place))
+}
+
+/// The k-th usable record, from 0, on a flat context.
+pub fn lookup_flat(context: &FlatContext, table: &[u8], address: Address, k: u64) -> Part {
+    let (start, length) = (table.as_ptr(), table.len());
+    // SAFETY: the table is good for its length during the call, and the
+    // library keeps nothing.
+    unsafe {
+        match address {
+            Address::Linear(address) => {
+                raw::skuldrefn_lookup_linear(*context, start, length, address, k)
+            }
+            Address::GuestPhysical(address) => {
+                raw::skuldrefn_lookup_guest_physical(*context, start, length, address, k)
+            }
+        }
+    }
+}
+
+/// Why an event drops a record or leaves it.
+///
+/// # Panics
+/// If the library hands back what its contract rules out.
+pub fn explain(context: &Context, record: &[u8], event: &[u8]) -> Reason {
+    let flat = explain_flat(&context.into(), record, event);
+    match flat.reason() {
+        Some(reason) => reason,
+        None => panic!("the library handed back {flat:?}"),
+    }
+}
+
+/// Why an event drops a record or leaves it, on a flat context.
+pub fn explain_flat(context: &FlatContext, record: &[u8], event: &[u8]) -> FlatReason {
+    // SAFETY: each pointer is good for its length during the call, and the
+    // library keeps nothing.
+    unsafe {
+        raw::skuldrefn_explain(
+            *context,
+            record.as_ptr(),
+            record.len(),
+            event.as_ptr(),
+            event.len(),
+        )
+    }
+}

@@ -1,0 +1,112 @@
+//! The static library as it is, field by field as in `skuldrefn.h`, which says
+//! what each function does.
+//!
+//! These functions are unsafe to call: every pointer must be good for the
+//! length that comes with it (null is allowed with length 0), and a buffer that
+//! is written may overlap no other.
+
+/// A context as numbers. `place`: 0 outside, 1 root, 2 guest. `vpid`, `ept`
+/// and `ep4ta` are looked at in a guest only, and `ep4ta` with `ept` 1 only.
+/// `ept`: 0 off, 1 on. Any other place or EPT number is answered 1.
+#[repr(C)]
+#[derive(Clone, Copy, Debug, Default, PartialEq, Eq)]
+pub struct FlatContext {
+    pub capability: u64,
+    pub width: u64,
+    pub pcid: u64,
+    pub cpl: u64,
+    pub place: u64,
+    pub vpid: u64,
+    pub ept: u64,
+    pub ep4ta: u64,
+}
+
+/// What a step reports. A refusal hands back the context as it came, 0 and 0.
+#[repr(C)]
+#[derive(Clone, Copy, Debug, PartialEq, Eq)]
+pub struct FlatStep {
+    pub answer: u64,
+    pub context: FlatContext,
+    pub length: usize,
+    pub dropped: usize,
+}
+
+/// What a lookup reports: a part of the table, or 0 and 0.
+#[repr(C)]
+#[derive(Clone, Copy, Debug, PartialEq, Eq)]
+pub struct Part {
+    pub answer: u64,
+    pub start: usize,
+    pub length: usize,
+}
+
+/// Why a mapping went or stayed: the reason's number, 1 to 10, and with reason
+/// 1 the step's answer, else 0.
+#[repr(C)]
+#[derive(Clone, Copy, Debug, PartialEq, Eq)]
+pub struct FlatReason {
+    pub reason: u64,
+    pub answer: u64,
+}
+
+/// What a replay reports: the context and the length of the table in force,
+/// 1 if the first buffer holds it, and the number of rows written.
+#[repr(C)]
+#[derive(Clone, Copy, Debug, PartialEq, Eq)]
+pub struct FlatReplayed {
+    pub context: FlatContext,
+    pub length: usize,
+    pub first: u64,
+    pub count: usize,
+}
+
+extern "C" {
+    pub fn skuldrefn_step(
+        context: FlatContext,
+        table: *const u8,
+        table_length: usize,
+        event: *const u8,
+        event_length: usize,
+        new_table: *mut u8,
+        new_length: usize,
+    ) -> FlatStep;
+
+    pub fn skuldrefn_lookup_linear(
+        context: FlatContext,
+        table: *const u8,
+        table_length: usize,
+        address: u64,
+        k: u64,
+    ) -> Part;
+
+    pub fn skuldrefn_lookup_guest_physical(
+        context: FlatContext,
+        table: *const u8,
+        table_length: usize,
+        address: u64,
+        k: u64,
+    ) -> Part;
+
+    pub fn skuldrefn_explain(
+        context: FlatContext,
+        record: *const u8,
+        record_length: usize,
+        event: *const u8,
+        event_length: usize,
+    ) -> FlatReason;
+
+    pub fn skuldrefn_event_length(log: *const u8, log_length: usize) -> usize;
+
+    pub fn skuldrefn_replay(
+        capability: u64,
+        width: u64,
+        log: *const u8,
+        log_length: usize,
+        first: *mut u8,
+        first_length: usize,
+        second: *mut u8,
+        second_length: usize,
+        rows: *mut u8,
+        rows_length: usize,
+    ) -> FlatReplayed;
+}

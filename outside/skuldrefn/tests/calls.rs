@@ -1,0 +1,225 @@
+//! The wrapper itself: document 01's example, flat contexts, empty slices
+//! and null.
+
+use skuldrefn::{raw, Context, FlatContext, FlatReason, FlatStep, Place, Reason};
+use skuldrefn::{PROGRAM_CAPABILITY, PROGRAM_WIDTH};
+use std::ptr::{null, null_mut};
+
+const A: [u8; 17] = [
+    0x01, 0x05, 0x00, 0x01, 0x00, 0x00, 0x00, 0x45, 0x23, 0x01, 0x00, 0x00, 0xDE, 0xBC, 0x0A, 0x00,
+    0x00,
+];
+const VMXON: [u8; 1] = [22];
+const RESET: [u8; 1] = [25];
+
+fn guest() -> Context {
+    Context {
+        pcid: 1,
+        place: Place::Guest { vpid: 5, ept: None },
+        ..Context::program()
+    }
+}
+
+fn start() -> FlatContext {
+    FlatContext::from(&Context::program())
+}
+
+fn refused(answer: u64, context: FlatContext) -> FlatStep {
+    FlatStep {
+        answer,
+        context,
+        length: 0,
+        dropped: 0,
+    }
+}
+
+#[test]
+fn a_creation_and_a_reset() {
+    let mut new = [0xA5; 40];
+    let step = skuldrefn::step(&guest(), &A, &A, &mut new);
+    assert_eq!((step.answer, step.length, step.dropped), (0, 34, 0));
+    assert_eq!(step.context, guest());
+    assert_eq!(new[..34], [A, A].concat());
+    assert_eq!(new[34..], [0xA5; 6]);
+    let step = skuldrefn::step(&guest(), &A, &RESET, &mut new);
+    assert_eq!((step.answer, step.length, step.dropped), (0, 0, 1));
+    assert_eq!(step.context, Context::program());
+}
+
+#[test]
+fn contexts_there_and_back() {
+    let guest_with_ept = Context {
+        place: Place::Guest {
+            vpid: 6,
+            ept: Some(0x123_4567),
+        },
+        ..guest()
+    };
+    let root = Context {
+        place: Place::Root,
+        ..guest()
+    };
+    for context in [Context::program(), root, guest(), guest_with_ept] {
+        assert_eq!(FlatContext::from(&context).context(), Some(context));
+    }
+}
+
+#[test]
+fn numbers_that_stand_for_nothing_are_answered_1() {
+    let mut new = [0xA5; 40];
+    for (place, ept) in [(3, 0), (2, 2), (1 << 32, 0), (u64::MAX, 1), (2, u64::MAX)] {
+        let context = FlatContext {
+            place,
+            ept,
+            vpid: 7,
+            ep4ta: 8,
+            ..start()
+        };
+        assert_eq!(context.context(), None);
+        let step = skuldrefn::step_flat(&context, &A, &RESET, &mut new);
+        assert_eq!(step, refused(1, context));
+        assert_eq!(new, [0xA5; 40]);
+        let reason = skuldrefn::explain_flat(&context, &A, &RESET);
+        assert_eq!((reason.reason, reason.answer), (1, 1));
+    }
+}
+
+#[test]
+fn reasons() {
+    let explain = |event: &[u8]| skuldrefn::explain(&guest(), &A, event);
+    assert_eq!(explain(&RESET), Reason::InScope);
+    assert_eq!(explain(&VMXON), Reason::Refused(6));
+    assert_eq!(explain(&A), Reason::NoScope);
+    let invlpg = |address: u64| [&[18], &address.to_le_bytes()[..]].concat();
+    assert_eq!(explain(&invlpg(0x1234_5678)), Reason::InScope);
+    assert_eq!(explain(&invlpg(0x1234_6000)), Reason::NotCovering);
+    assert_eq!(explain(&invlpg(1 << 47)), Reason::NotCanonical);
+    let elsewhere = skuldrefn::explain(&Context::program(), &A, &invlpg(0x1234_5678));
+    assert_eq!(elsewhere, Reason::WrongVpid);
+}
+
+#[test]
+fn reasons_there_and_back() {
+    for number in 0..20 {
+        for answer in 0..20 {
+            let flat = FlatReason {
+                reason: number,
+                answer,
+            };
+            match flat.reason() {
+                Some(reason) => assert_eq!(FlatReason::from(reason), flat),
+                None => assert!(!(1..=10).contains(&number) || (number == 1) == (answer == 0)),
+            }
+        }
+    }
+}
+
+#[test]
+fn empty_slices() {
+    let step = skuldrefn::step_flat(&start(), &[], &RESET, &mut []);
+    let accepted = FlatStep {
+        answer: 0,
+        ..refused(0, start())
+    };
+    assert_eq!(step, accepted);
+    let step = skuldrefn::step_flat(&start(), &[], &[], &mut []);
+    assert_eq!(step, refused(4, start()));
+    let step = skuldrefn::step_flat(&start(), &A, &VMXON, &mut []);
+    assert_eq!(step, refused(12, start()));
+    let explain = |record, event| skuldrefn::explain(&Context::program(), record, event);
+    assert_eq!(explain(&[], &RESET), Reason::Refused(3));
+    assert_eq!(explain(&A, &[]), Reason::Refused(4));
+    assert_eq!(explain(&[], &[]), Reason::Refused(3));
+}
+
+#[test]
+fn null_with_length_0() {
+    let mut new = [0xA5; 1];
+    // SAFETY: null goes with length 0, which the header allows.
+    let (without_buffers, without_event, without_new) = unsafe {
+        (
+            raw::skuldrefn_step(start(), null(), 0, RESET.as_ptr(), 1, null_mut(), 0),
+            raw::skuldrefn_step(start(), null(), 0, null(), 0, new.as_mut_ptr(), 1),
+            raw::skuldrefn_step(start(), A.as_ptr(), 17, VMXON.as_ptr(), 1, null_mut(), 0),
+        )
+    };
+    assert_eq!(without_buffers, refused(0, start()));
+    assert_eq!(without_event, refused(4, start()));
+    assert_eq!(without_new, refused(12, start()));
+    assert_eq!(new, [0xA5]);
+}
+
+#[test]
+fn null_with_length_0_elsewhere() {
+    // SAFETY: as above.
+    unsafe {
+        for (reason, answer) in [
+            (
+                raw::skuldrefn_explain(start(), null(), 0, RESET.as_ptr(), 1),
+                3,
+            ),
+            (
+                raw::skuldrefn_explain(start(), A.as_ptr(), 17, null(), 0),
+                4,
+            ),
+            (raw::skuldrefn_explain(start(), null(), 0, null(), 0), 3),
+        ] {
+            assert_eq!((reason.reason, reason.answer), (1, answer));
+        }
+        for part in [
+            raw::skuldrefn_lookup_linear(start(), null(), 0, 0, 0),
+            raw::skuldrefn_lookup_guest_physical(start(), null(), 0, 0, 0),
+        ] {
+            assert_eq!((part.answer, part.start, part.length), (0, 0, 0));
+        }
+        let end = raw::skuldrefn_replay(
+            PROGRAM_CAPABILITY,
+            PROGRAM_WIDTH,
+            null(),
+            0,
+            null_mut(),
+            0,
+            null_mut(),
+            0,
+            null_mut(),
+            0,
+        );
+        assert_eq!(end.context, start());
+        assert_eq!((end.length, end.count), (0, 0));
+    }
+}
+
+#[test]
+fn the_events_of_a_log() {
+    let exit = [21, 1, 0];
+    let log = [&VMXON[..], &exit, &A, &RESET].concat();
+    let events: Vec<&[u8]> = skuldrefn::events(&log).collect();
+    assert_eq!(events, [&VMXON[..], &exit, &A, &RESET]);
+    // A cut record and an unknown kind take all that is left.
+    let cut: Vec<&[u8]> = skuldrefn::events(&log[..20]).collect();
+    assert_eq!(cut, [&VMXON[..], &exit, &A[..16]]);
+    let unknown: Vec<&[u8]> = skuldrefn::events(&[22, 0, 22, 22]).collect();
+    assert_eq!(unknown, [&[22][..], &[0, 22, 22]]);
+    assert_eq!(skuldrefn::events(&[]).count(), 0);
+}
+
+#[test]
+fn the_length_of_an_event() {
+    assert_eq!(skuldrefn::event_length(&[]), 0);
+    assert_eq!(skuldrefn::event_length(&[0, 1, 2]), 0);
+    assert_eq!(skuldrefn::event_length(&[22, 0]), 1);
+    assert_eq!(skuldrefn::event_length(&A), 17);
+    // What the kind says, though the record is cut.
+    assert_eq!(skuldrefn::event_length(&A[..1]), 17);
+    // SAFETY: null goes with length 0, which the header allows.
+    assert_eq!(unsafe { raw::skuldrefn_event_length(null(), 0) }, 0);
+}
+
+#[test]
+fn a_replay() {
+    let log = [&VMXON[..], &[21, 0, 0], &[9, 9]].concat();
+    let replay = skuldrefn::replay(PROGRAM_CAPABILITY, PROGRAM_WIDTH, &log);
+    let answers: Vec<u64> = replay.lines.iter().map(|line| line.answer).collect();
+    assert_eq!(answers, [0, 9, 4]);
+    assert_eq!((replay.context.place, replay.table.len()), (Place::Root, 0));
+}

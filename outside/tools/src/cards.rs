@@ -1,0 +1,349 @@
+//! The cards of documents 01 and 02, and what they say of each.
+//!
+//! The answers, counts, tables and reasons below were written by hand from the documents; no model
+//! worked them out.
+
+use common::{encode, set_field, PROGRAM_CAPABILITY, PROGRAM_WIDTH};
+
+/// A context as its eight numbers: capability, N, PCID, CPL, place, VPID, EPT, EP4TA.
+pub type Context = [u64; 8];
+
+/// A step: what is given, the answer, the count of dropped records, the new table, and the context
+/// after it.
+pub struct Step {
+    pub name: &'static str,
+    pub context: Context,
+    pub table: Vec<u8>,
+    pub event: Vec<u8>,
+    pub answer: u64,
+    pub dropped: u64,
+    pub new: Vec<u8>,
+    pub after: Context,
+}
+
+/// A lookup, linear (mode 1) or guest-physical (mode 2): what is given, the answer, where the part
+/// starts, and its bytes.
+pub struct Lookup {
+    pub name: &'static str,
+    pub context: Context,
+    pub table: Vec<u8>,
+    pub mode: u8,
+    pub address: u64,
+    pub k: u64,
+    pub answer: u64,
+    pub start: u64,
+    pub part: Vec<u8>,
+}
+
+/// A reason: what is given, its number in Ask 1's order from 1, and the step's answer.
+pub struct Reason {
+    pub name: &'static str,
+    pub context: Context,
+    pub record: Vec<u8>,
+    pub event: Vec<u8>,
+    pub reason: u64,
+    pub answer: u64,
+}
+
+/// A: linear translation, VPID 5, PCID 1, span 0, page 12345h, frame ABCDEh.
+const A: [u8; 17] = [
+    0x01, 0x05, 0x00, 0x01, 0x00, 0x00, 0x00, 0x45, 0x23, 0x01, 0x00, 0x00, 0xDE, 0xBC, 0x0A, 0x00,
+    0x00,
+];
+
+/// G: guest-physical translation, EP4TA 1234567h, span 0, page 10h, frame 20h.
+const G: [u8; 17] = [
+    0x02, 0x67, 0x45, 0x23, 0x01, 0x00, 0x00, 0x10, 0x00, 0x00, 0x00, 0x00, 0x20, 0x00, 0x00, 0x00,
+    0x00,
+];
+
+const EP4TA: u64 = 0x1234567;
+const NONE: [u8; 0] = [];
+const RESET: [u8; 1] = [25];
+
+/// A byte more than a table may have.
+static LONG: [u8; 45_057] = [0; 45_057];
+
+// Records: VPID, PCID, global, span, page, where they have them.
+
+fn linear(vpid: u64, pcid: u64, global: u64, span: u64, page: u64) -> Vec<u8> {
+    encode(1, &[vpid, pcid, global, span, page, 0xABCDE])
+}
+
+fn combined(vpid: u64, pcid: u64, global: u64, span: u64, page: u64) -> Vec<u8> {
+    encode(3, &[vpid, pcid, global, span, page, 7, EP4TA])
+}
+
+fn linear_structure(vpid: u64, pcid: u64, span: u64, page: u64) -> Vec<u8> {
+    encode(4, &[vpid, pcid, span, page, 9])
+}
+
+fn combined_structure(vpid: u64, pcid: u64, span: u64, page: u64) -> Vec<u8> {
+    encode(6, &[vpid, pcid, span, page, 9, EP4TA])
+}
+
+/// A record of kind 3 with another EP4TA.
+fn other_ep4ta(mut record: Vec<u8>) -> Vec<u8> {
+    set_field(&mut record, 6, EP4TA + 1);
+    record
+}
+
+// Events.
+
+fn invvpid(kind: u64, low: u64, high: u64) -> Vec<u8> {
+    encode(16, &[kind, low, high])
+}
+
+fn invept(kind: u64, low: u64, high: u64) -> Vec<u8> {
+    encode(17, &[kind, low, high])
+}
+
+fn invlpg(address: u64) -> Vec<u8> {
+    encode(18, &[address])
+}
+
+fn violation(physical: u64, flag: u64, address: u64) -> Vec<u8> {
+    encode(19, &[physical, flag, address])
+}
+
+fn entry(vpids: u64, vpid: u64, ept: u64, eptp: u64, pcid: u64, cpl: u64) -> Vec<u8> {
+    encode(20, &[vpids, vpid, ept, eptp, pcid, cpl])
+}
+
+fn exit(pcid: u64) -> Vec<u8> {
+    encode(21, &[pcid])
+}
+
+// Contexts.
+
+/// A context with the program's numbers. Places: 0 outside, 1 root, 2 guest.
+const fn at(pcid: u64, cpl: u64, place: u64, vpid: u64, ept: u64, ep4ta: u64) -> Context {
+    [
+        PROGRAM_CAPABILITY,
+        PROGRAM_WIDTH,
+        pcid,
+        cpl,
+        place,
+        vpid,
+        ept,
+        ep4ta,
+    ]
+}
+
+const OUTSIDE: Context = at(0, 0, 0, 0, 0, 0);
+const ROOT: Context = at(0, 0, 1, 0, 0, 0);
+const GUEST: Context = at(1, 0, 2, 5, 0, 0);
+const EPT_GUEST: Context = at(1, 0, 2, 5, 1, EP4TA);
+const UNTAGGED: Context = at(1, 0, 2, 0, 1, EP4TA);
+
+/// Root with another width.
+fn root_of_width(width: u64) -> Context {
+    let mut context = ROOT;
+    context[1] = width;
+    context
+}
+
+/// Root without capability bit 21.
+fn root_without_21() -> Context {
+    let mut context = ROOT;
+    context[0] &= !(1 << 21);
+    context
+}
+
+// Rows.
+
+/// A step that is accepted and leaves the context as it is.
+fn accepts(
+    name: &'static str,
+    context: Context,
+    table: impl AsRef<[u8]>,
+    event: impl AsRef<[u8]>,
+    dropped: u64,
+    new: impl AsRef<[u8]>,
+) -> Step {
+    Step {
+        name,
+        context,
+        table: table.as_ref().to_vec(),
+        event: event.as_ref().to_vec(),
+        answer: 0,
+        dropped,
+        new: new.as_ref().to_vec(),
+        after: context,
+    }
+}
+
+impl Step {
+    /// The same with another context after it.
+    fn then(self, after: Context) -> Step {
+        Step { after, ..self }
+    }
+}
+
+/// A step that is refused: it drops nothing, and changes neither the buffer nor the context.
+fn refuses(
+    name: &'static str,
+    context: Context,
+    table: impl AsRef<[u8]>,
+    event: impl AsRef<[u8]>,
+    answer: u64,
+) -> Step {
+    Step {
+        answer,
+        ..accepts(name, context, table, event, 0, NONE)
+    }
+}
+
+/// A lookup that finds the part at a start, or with no bytes none.
+fn finds(
+    name: &'static str,
+    context: Context,
+    table: impl AsRef<[u8]>,
+    (mode, address, k): (u8, u64, u64),
+    (answer, start): (u64, u64),
+    part: impl AsRef<[u8]>,
+) -> Lookup {
+    Lookup {
+        name,
+        context,
+        table: table.as_ref().to_vec(),
+        mode,
+        address,
+        k,
+        answer,
+        start,
+        part: part.as_ref().to_vec(),
+    }
+}
+
+/// A record and an event, with the reason that the event gives.
+fn gives(
+    name: &'static str,
+    context: Context,
+    record: impl AsRef<[u8]>,
+    event: impl AsRef<[u8]>,
+    reason: u64,
+    answer: u64,
+) -> Reason {
+    Reason {
+        name,
+        context,
+        record: record.as_ref().to_vec(),
+        event: event.as_ref().to_vec(),
+        reason,
+        answer,
+    }
+}
+
+/// The steps, into a buffer of 64 bytes; a row for each.
+#[rustfmt::skip]
+pub fn steps() -> Vec<Step> {
+    vec![
+        accepts("A, G; INVVPID 1, VPID 5", ROOT, [A, G].concat(), invvpid(1, 5, 0), 1, G),
+        accepts("A; type 0, address 12345678h", ROOT, A, invvpid(0, 5, 0x12345678), 1, NONE),
+        accepts("A; type 0, address 12346000h", ROOT, A, invvpid(0, 5, 0x12346000), 0, A),
+        accepts("type 0, address 00007FFFFFFFF000h", ROOT, A, invvpid(0, 5, 0x7FFFFFFFF000), 0, A),
+        accepts("type 0, address FFFF800000000000h", ROOT, A, invvpid(0, 5, 0xFFFF800000000000), 0, A),
+        refuses("type 0, address 0000800000000000h", ROOT, A, invvpid(0, 5, 0x800000000000), 8),
+        accepts("type 1, address 0000800000000000h", ROOT, A, invvpid(1, 5, 0x800000000000), 1, NONE),
+        refuses("type 0, VPID 0", ROOT, A, invvpid(0, 0, 0), 8),
+        accepts("type 2, VPID 0", ROOT, A, invvpid(2, 0, 0), 1, NONE),
+        refuses("type 2, descriptor bit 16 set (mistake 5)", ROOT, A, invvpid(2, 5 + (1 << 16), 0), 8),
+        refuses("type 4", ROOT, A, invvpid(4, 5, 0), 8),
+        accepts("span 1, page 12200h covers page 12345h", ROOT, linear(5, 1, 0, 1, 0x12200), invvpid(0, 5, 0x12345000), 1, NONE),
+        accepts("span 1, page 12200h does not cover page 12400h", ROOT, linear(5, 1, 0, 1, 0x12200), invvpid(0, 5, 0x12400000), 0, linear(5, 1, 0, 1, 0x12200)),
+        refuses("span 1, page 12201h", ROOT, linear(5, 1, 0, 1, 0x12201), invvpid(0, 5, 0x12345000), 3),
+        accepts("A with global 1 under type 3", ROOT, linear(5, 1, 1, 0, 0x12345), invvpid(3, 5, 0), 0, linear(5, 1, 1, 0, 0x12345)),
+        accepts("G; INVEPT 1, EPTP 123456701Eh, N = 37", root_of_width(37), G, invept(1, 0x123456701E, 0), 1, NONE),
+        refuses("G; INVEPT 1, EPTP 123456701Eh, N = 36", root_of_width(36), G, invept(1, 0x123456701E, 0), 8),
+        accepts("G; INVEPT 1, EPTP 123456705Eh (mistake 1)", ROOT, G, invept(1, 0x123456705E, 0), 1, NONE),
+        refuses("the same without capability bit 21", root_without_21(), G, invept(1, 0x123456705E, 0), 8),
+        accepts("PCID 4,095 in a record", ROOT, linear(5, 4095, 0, 0, 0), invvpid(1, 5, 0), 1, NONE),
+        refuses("PCID 4,096 in a record", ROOT, linear(5, 4096, 0, 0, 0), invvpid(1, 5, 0), 3),
+        accepts("PCID 4,095 in an event", GUEST, A, exit(4095), 0, A).then(at(4095, 0, 1, 0, 0, 0)),
+        refuses("PCID 4,096 in an event", GUEST, A, exit(4096), 4),
+        accepts("empty table, reset", ROOT, NONE, RESET, 0, NONE).then(OUTSIDE),
+        accepts("mistake 2: INVVPID 2 leaves G", ROOT, G, invvpid(2, 0, 0), 0, G),
+        accepts("mistake 2: INVEPT 2 leaves A", ROOT, A, invept(2, 0, 0), 0, A),
+        accepts("mistake 3: EPT violation, global of another PCID", EPT_GUEST, combined(5, 2, 1, 0, 0x12345), violation(0, 1, 0x12345000), 0, combined(5, 2, 1, 0, 0x12345)),
+        accepts("mistake 3: EPT violation, global of the current PCID", EPT_GUEST, combined(5, 1, 1, 0, 0x12345), violation(0, 1, 0x12345000), 1, NONE),
+        accepts("mistake 4: type 3 takes structure caches", ROOT, [&linear_structure(5, 1, 1, 0x12200)[..], &combined_structure(5, 1, 1, 0)].concat(), invvpid(3, 5, 0), 2, NONE),
+        accepts("mistake 4: INVLPG, global of another PCID", EPT_GUEST, combined(5, 2, 1, 0, 0x12345), invlpg(0x12345000), 1, NONE),
+        accepts("Ask 2: INVLPG takes a structure cache at another page", GUEST, linear_structure(5, 1, 1, 0x12400), invlpg(0x12345000), 1, NONE),
+        accepts("Ask 2: type 0 leaves it", ROOT, linear_structure(5, 1, 1, 0x12400), invvpid(0, 5, 0x12345000), 0, linear_structure(5, 1, 1, 0x12400)),
+        accepts("INVLPG at a non-canonical address", GUEST, A, invlpg(1 << 47), 0, A),
+        accepts("entry without VPIDs takes VPID 0", ROOT, [&linear(0, 9, 1, 0, 0)[..], &A].concat(), entry(0, 9, 0, 0, 1, 0), 1, A).then(at(1, 0, 2, 0, 0, 0)),
+        accepts("entry with VPIDs takes nothing", ROOT, linear(0, 9, 1, 0, 0), entry(1, 5, 0, 0, 1, 0), 0, linear(0, 9, 1, 0, 0)).then(GUEST),
+        accepts("exit of a guest without VPIDs takes VPID 0", UNTAGGED, [&combined_structure(0, 1, 1, 0)[..], &A].concat(), exit(0), 1, A).then(ROOT),
+        accepts("creation of A in its guest", GUEST, G, A, 0, [G, A].concat()),
+        refuses("creation of A in root", ROOT, NONE, A, 11),
+        refuses("no room for the old table", ROOT, [A, A, A, A].concat(), RESET, 12),
+        refuses("no room for a creation", GUEST, [A, A, A].concat(), A, 12),
+        refuses("N = 53", root_of_width(53), [0x63], NONE, 1),
+        refuses("a table of 45,057 bytes", ROOT, LONG, RESET, 2),
+        refuses("a cut record", ROOT, &A[..16], RESET, 3),
+        refuses("an empty event", ROOT, A, NONE, 4),
+        refuses("VMXOFF outside VMX", OUTSIDE, A, [23], 5),
+        refuses("INVVPID in a guest", GUEST, A, invvpid(9, 0, 0), 6),
+        refuses("INVLPG at CPL 3", at(1, 3, 2, 5, 0, 0), A, invlpg(0), 7),
+        refuses("VMXON in root", ROOT, A, [22], 9),
+        refuses("entry with VPID 0 enabled", ROOT, A, entry(1, 0, 0, 0, 1, 0), 10),
+    ]
+}
+
+/// The lookups, a row for each.
+#[rustfmt::skip]
+pub fn lookups() -> Vec<Lookup> {
+    vec![
+        finds("A at 12345678h", GUEST, [A, G].concat(), (1, 0x12345678, 0), (0, 0), A),
+        finds("nothing more at 12345678h", GUEST, [A, G].concat(), (1, 0x12345678, 1), (0, 0), NONE),
+        finds("a structure cache counts too", GUEST, [&A[..], &linear_structure(5, 1, 1, 0x12200)].concat(), (1, 0x12345678, 1), (0, 17), linear_structure(5, 1, 1, 0x12200)),
+        finds("G at guest-physical 10000h", EPT_GUEST, [A, G].concat(), (2, 0x10000, 0), (0, 17), G),
+        finds("G with EPT off", GUEST, [A, G].concat(), (2, 0x10000, 0), (0, 0), NONE),
+        finds("an invalid table", GUEST, &A[..16], (1, 0x12345678, 0), (3, 0), NONE),
+    ]
+}
+
+/// Ask 1's reasons, a row for each.
+#[rustfmt::skip]
+pub fn reasons() -> Vec<Reason> {
+    vec![
+        gives("why: N = 53", root_of_width(53), A, invvpid(1, 5, 0), 1, 1),
+        gives("why: no bytes", ROOT, NONE, invvpid(1, 5, 0), 1, 3),
+        gives("why: two records", ROOT, [A, A].concat(), invvpid(1, 5, 0), 1, 3),
+        gives("why: 45,057 bytes", ROOT, LONG, invvpid(1, 5, 0), 1, 3),
+        gives("why: an empty event", ROOT, A, NONE, 1, 4),
+        gives("why: type 4", ROOT, A, invvpid(4, 5, 0), 1, 8),
+        gives("why: exit outside a guest", ROOT, A, exit(0), 1, 9),
+        gives("why: creation of A", GUEST, A, A, 2, 0),
+        gives("why: VMXOFF", ROOT, A, [23], 2, 0),
+        gives("why: entry with VPIDs", ROOT, A, entry(1, 5, 0, 0, 1, 0), 2, 0),
+        gives("why: exit with VPIDs", GUEST, A, exit(0), 2, 0),
+        gives("why: INVLPG of a non-canonical address, kind 2", EPT_GUEST, G, invlpg(1 << 47), 3, 0),
+        gives("why: INVVPID 1, kind 2", ROOT, G, invvpid(1, 5, 0), 4, 0),
+        gives("why: INVEPT 2, kind 1", ROOT, A, invept(2, 0, 0), 4, 0),
+        gives("why: EPT violation with flag 0, kind 3", EPT_GUEST, combined(9, 9, 0, 0, 0), violation(0, 0, 0), 4, 0),
+        gives("why: EPT violation, kind 1", EPT_GUEST, linear(5, 1, 0, 0, 0), violation(0, 1, 0), 4, 0),
+        gives("why: INVVPID 3, global of another VPID", ROOT, linear(6, 1, 1, 0, 0), invvpid(3, 5, 0), 5, 0),
+        gives("why: INVVPID 1 of another VPID", ROOT, A, invvpid(1, 6, 0), 5, 0),
+        gives("why: INVVPID 2 of VPID 0", ROOT, linear(0, 1, 0, 0, 0), invvpid(2, 0, 0), 5, 0),
+        gives("why: entry without VPIDs, VPID 5", ROOT, A, entry(0, 0, 0, 0, 1, 0), 5, 0),
+        gives("why: EPT violation, kind 3 of another VPID and PCID", EPT_GUEST, combined(9, 9, 0, 0, 0), violation(0, 1, 0), 5, 0),
+        gives("why: INVLPG, PCID 2 and another page", GUEST, linear(5, 2, 0, 0, 0x12345), invlpg(0), 6, 0),
+        gives("why: INVLPG, structure cache of PCID 2", GUEST, linear_structure(5, 2, 1, 0), invlpg(0), 6, 0),
+        gives("why: EPT violation, global of another PCID", EPT_GUEST, combined(5, 2, 1, 0, 0), violation(0, 1, 0), 6, 0),
+        gives("why: EPT violation, kind 3 of another PCID and EP4TA", EPT_GUEST, other_ep4ta(combined(5, 2, 0, 0, 0)), violation(0, 1, 0), 6, 0),
+        gives("why: EPT violation, kind 3 of another EP4TA and page", EPT_GUEST, other_ep4ta(combined(5, 1, 0, 0, 1)), violation(0, 1, 0), 7, 0),
+        gives("why: INVEPT 1 of another EP4TA", ROOT, G, invept(1, 0x1E, 0), 7, 0),
+        gives("why: type 0, address 12346000h", ROOT, A, invvpid(0, 5, 0x12346000), 8, 0),
+        gives("why: INVLPG, global of PCID 2 and another page", GUEST, linear(5, 2, 1, 0, 0x12345), invlpg(0), 8, 0),
+        gives("why: EPT violation, kind 3 at the guest-physical page alone", EPT_GUEST, combined(5, 1, 0, 0, 0), violation(0, 1, 0x1000), 8, 0),
+        gives("why: EPT violation, G and another page", EPT_GUEST, G, violation(0, 0, 0), 8, 0),
+        gives("why: A with global 1 under type 3", ROOT, linear(5, 1, 1, 0, 0x12345), invvpid(3, 5, 0), 9, 0),
+        gives("why: A under type 3", ROOT, A, invvpid(3, 5, 0), 10, 0),
+        gives("why: INVLPG, global of PCID 2", GUEST, linear(5, 2, 1, 0, 0x12345), invlpg(0x12345678), 10, 0),
+        gives("why: INVLPG, structure cache at another page", GUEST, linear_structure(5, 1, 1, 0x12400), invlpg(0x12345000), 10, 0),
+        gives("why: EPT violation, G", EPT_GUEST, G, violation(0x10000, 0, 0), 10, 0),
+        gives("why: reset", ROOT, G, RESET, 10, 0),
+    ]
+}
