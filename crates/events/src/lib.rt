@@ -8,7 +8,7 @@ use model::Violation;
 ghost use mathlib.Core.Path.{_≡_};
 ghost use lib.ListN.{length};
 ghost use Rattle.model.specs.Layouts.{kind-of, body-of, length-of};
-ghost use Rattle.model.specs.Events.{operands, violation, entry, new-pcid, event, event-in-range, valid-event, event-reading};
+ghost use Rattle.model.specs.Events.{operands, violation, entry, new-pcid, event, event-in-range, event-reading};
 
 // The operands of an INVVPID or INVEPT, whose bodies are alike.
 fn read_operands(e: &[u8]) -> Operands
@@ -60,35 +60,6 @@ fn read_new_pcid(e: &[u8]) -> NewPcid
     }
 }
 
-// The fields of the event of a kind, in bytes of its length, are in their ranges. With flag 0 an EPT
-// violation's linear address is not looked at, and a disabled VPID or EPT field of a VM entry never is.
-fn is_in_range(e: &[u8], kind: u64) -> bool
-    requires { ⌜ (kind ≡ kind-of (now e)) × (length (now e) ≡ length-of kind) ⌝ }
-    ensures { λ r. ⌜ r ≡ event-in-range (event (now (e .entry))) ⌝ }
-{
-    if kinds::is_mapping(kind) {
-        return mappings::is_in_ranges(e);
-    }
-    match kind {
-        19 => {
-            let v = read_violation(e);
-            (v.physical < model::GUEST_PHYSICAL_LIMIT)
-                & (v.flag <= 1)
-                & ((v.flag == 0) | addresses::is_canonical(v.linear))
-        }
-        20 => {
-            let n = read_entry(e);
-            (n.vpids <= 1) & (n.ept <= 1) & (n.pcid <= model::PCID_MAX) & (n.cpl <= 3)
-        }
-        21 => numbers::number2(e, 1) <= model::PCID_MAX,
-        24 => {
-            let n = read_new_pcid(e);
-            (n.pcid <= model::PCID_MAX) & (n.cpl <= 3)
-        }
-        _ => true,
-    }
-}
-
 // The kind of bytes, their first, and 0 where there is none.
 fn kind_of(e: &[u8]) -> u64
     ensures { λ r. ⌜ r ≡ kind-of (now (e .entry)) ⌝ }
@@ -97,19 +68,6 @@ fn kind_of(e: &[u8]) -> u64
         return 0;
     }
     numbers::wide(e[0])
-}
-
-// Bytes of a kind are exactly one valid record. No bytes, an unknown kind, a byte too few or too many and
-// a field out of its range are all invalid.
-fn is_valid(e: &[u8], kind: u64) -> bool
-    requires { ⌜ kind ≡ kind-of (now e) ⌝ }
-    ensures { λ r. ⌜ r ≡ valid-event (now (e .entry)) ⌝ }
-{
-    let size = e.len();
-    if (size == 0) | (size != kinds::length(kind)) {
-        return false;
-    }
-    is_in_range(e, kind)
 }
 
 // The event of a kind in bytes of its length. The one known kind behind the others is 25, a reset.
@@ -134,13 +92,47 @@ fn event_of(e: &[u8], kind: u64) -> Event
     }
 }
 
-// The event that the bytes are, or that they are not exactly one valid record.
+// The fields of an event are in their ranges. A creation's are read from its bytes. With flag 0 an EPT violation's
+// linear address is not looked at, and a disabled VPID or EPT field of a VM entry never is.
+fn is_in_range(e: &[u8], x: Event) -> bool
+    requires { ⌜ length (now e) ≡ length-of (kind-of (now e)) ⌝ }
+    requires { ⌜ x ≡ event (now e) ⌝ }
+    ensures { λ r. ⌜ r ≡ event-in-range x ⌝ }
+{
+    match x {
+        Event::Creation(_) => mappings::is_in_ranges(e),
+        Event::EptViolation(v) => {
+            (v.physical < model::GUEST_PHYSICAL_LIMIT)
+                & (v.flag <= 1)
+                & ((v.flag == 0) | addresses::is_canonical(v.linear))
+        }
+        Event::Entry(n) => {
+            (n.vpids <= 1) & (n.ept <= 1) & (n.pcid <= model::PCID_MAX) & (n.cpl <= 3)
+        }
+        Event::Exit(pcid) => pcid <= model::PCID_MAX,
+        Event::NewPcid(n) => (n.pcid <= model::PCID_MAX) & (n.cpl <= 3),
+        Event::Invvpid(_) => true,
+        Event::Invept(_) => true,
+        Event::Invlpg(_) => true,
+        Event::Vmxon => true,
+        Event::Vmxoff => true,
+        Event::Reset => true,
+    }
+}
+
+// The event that the bytes are, or that they are not exactly one valid record: no bytes, an unknown kind, a
+// byte too few or too many and a field out of its range are all invalid.
 pub fn read_event(e: &[u8]) -> EventReading
     ensures { λ r. ⌜ r ≡ event-reading (now (e .entry)) ⌝ }
 {
     let kind = kind_of(e);
-    if is_valid(e, kind) {
-        return EventReading::Read(event_of(e, kind));
+    let size = e.len();
+    if (size == 0) | (size != kinds::length(kind)) {
+        return EventReading::Invalid;
+    }
+    let x = event_of(e, kind);
+    if is_in_range(e, x) {
+        return EventReading::Read(x);
     }
     EventReading::Invalid
 }

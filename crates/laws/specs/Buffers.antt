@@ -1,5 +1,5 @@
 -- Bytes put into a buffer, and the bytes of a number.
-use Prim.Native.Nat.{ℕ, zero, suc, _+_, _-_, _*_, _/_, _%_, _^_, _≤_, _<_}
+use Prim.Native.Nat.{ℕ, zero, suc, _+_, _-_, _/_, _%_, _^_, _≤_, _<_}
 use mathlib.Core.List.{List, [], _∷_, _++_, append-assoc}
 use mathlib.Core.Path.{_≡_, refl, sym, ap, _∙_}
 use native.Mathlib.Omega.{arith}
@@ -56,9 +56,6 @@ put-more at xs b x h =
     sym (put-one (at + length xs) x (put at xs b) (omega (arith, length-put-least at xs b))) ∙ put-put at xs (x ∷ []) b (omega arith)
 
 -- the same at the front
-pub put-front : (xs b : List ℕ) → put 0 xs b ≡ xs ++ drop (length xs) b
-put-front xs b = put-split 0 xs b
-
 pub take-put-front : (xs b : List ℕ) → take (length xs) (put 0 xs b) ≡ xs
 take-put-front xs b = rw zero-add at (take-put 0 xs b (omega arith))
 

@@ -6,13 +6,14 @@ use mathlib.Core.List.{List, [], _∷_}
 use native.Mathlib.Omega.{arith}
 use lib.Dec.{eqb}
 use lib.ListN.{length}
-use borrow.Author.Tests.{eqb-true, ne-eqb}
+use borrow.Author.Tests.{eqb-true}
 use Rattle.model.specs.declared.Event.{Event}
-use Rattle.model.specs.declared.Event.the-variants.{Creation, Invvpid, Invept, Invlpg, Vmxon, Vmxoff, Reset}
+use Rattle.model.specs.declared.Event.the-variants.{Creation}
+use Rattle.model.specs.declared.Mapping.{Mapping}
 use Rattle.model.specs.declared.EventReading.the-variants.{Read, Invalid}
-use Rattle.model.specs.Layouts.{Field, field, kind-of, mapping-kind, event-kind, length-of}
+use Rattle.model.specs.Layouts.{kind-of, mapping-kind, event-kind, length-of}
 use Rattle.model.specs.Mappings.{mapping, Held}
-use Rattle.model.specs.Events.{operands, event, event-in-range, valid-event, event-reading}
+use Rattle.model.specs.Events.{event, event-in-range, valid-event, event-reading}
 use Rattle.laws.specs.Layouts.{length-of-positive}
 use Rattle.laws.specs.Mappings.{Valid, valid-made, starts-made}
 
@@ -109,19 +110,27 @@ pub sized-held : (e : List ℕ) {kind : ℕ} → (kind ≡ kind-of e) × (length
 sized-held e sized known =
     record { known = rw (sized .0) at known; fits = omega (arith, rw (sized .0) at (sized .1)) }
 
--- creations, EPT violations, VM entries, VM exits and new PCIDs have ranges, the other events none
-pub in-range-other : (e : List ℕ) {kind : ℕ} → kind ≡ kind-of e → mapping-kind kind ≡ false → (kind ≡ 19 → ⊥) → (kind ≡ 20 → ⊥) → (kind ≡ 21 → ⊥)
-    → (kind ≡ 24 → ⊥)
-    → true ≡ event-in-range (event e)
-unfolding event event-in-range
-in-range-other e {kind} is creation violation entry exit pcid =
-    rw (← is, creation, ne-eqb kind 19 violation, ne-eqb kind 20 entry, ne-eqb kind 21 exit, ne-eqb kind 24 pcid)
-    (go (eqb kind 16) (eqb kind 17) (eqb kind 18) (eqb kind 22) (eqb kind 23))
+-- bytes that stand for a creation are of a mapping's kind
+pub event-creation-kind : (e : List ℕ) (m : Mapping) → event e ≡ Creation m → mapping-kind (kind-of e) ≡ true
+unfolding event
+event-creation-kind e m h =
+    first (mapping-kind (kind-of e)) _
+    (neither (eqb (kind-of e) 16) _ _ (λ h. apart (cc))
+    (neither (eqb (kind-of e) 17) _ _ (λ h. apart (cc))
+    (neither (eqb (kind-of e) 18) _ _ (λ h. apart (cc))
+    (neither (eqb (kind-of e) 19) _ _ (λ h. apart (cc))
+    (neither (eqb (kind-of e) 20) _ _ (λ h. apart (cc))
+    (neither (eqb (kind-of e) 21) _ _ (λ h. apart (cc))
+    (neither (eqb (kind-of e) 22) _ _ (λ h. apart (cc))
+    (neither (eqb (kind-of e) 23) _ _ (λ h. apart (cc))
+    (neither (eqb (kind-of e) 24) _ _ (λ h. apart (cc)) (λ h. apart (cc)))))))))))
+    h
   where
-    go : (a b c d f : Bool) → true ≡ event-in-range (cond a (Invvpid (operands e)) (cond b (Invept (operands e)) (cond c (Invlpg (field Field.linear-address e)) (cond d Vmxon (cond f Vmxoff Reset)))))
-    go true b c d f = refl
-    go false true c d f = refl
-    go false false true d f = refl
-    go false false false true f = refl
-    go false false false false true = refl
-    go false false false false false = refl
+    apart : _≡_ {A = ℕ} 0 1 → ⊥
+    apart z = omega arith
+    first : (b : Bool) (rest : Event) → (rest ≡ Creation m → ⊥) → cond b (Creation (mapping e)) rest ≡ Creation m → b ≡ true
+    first true rest other h = refl
+    first false rest other h = absurd (other h)
+    neither : (b : Bool) (x y : Event) → (x ≡ Creation m → ⊥) → (y ≡ Creation m → ⊥) → cond b x y ≡ Creation m → ⊥
+    neither true x y p q = p
+    neither false x y p q = q

@@ -1,11 +1,11 @@
 -- The kinds of mappings, and fields: each lies within its record or event, so the bytes behind that
 -- do not matter.
 use Prim.Native.Nat.{ℕ, zero, suc, _+_, _*_, _≤_, _<_}
-use mathlib.Core.Path.{_≡_, refl, sym, ap, ap₂, subst, _∙_}
+use mathlib.Core.Path.{_≡_, refl, sym, ap, ap₂, subst}
 use mathlib.Core.Bool.{Bool, true, false, cond, not, _&&_, and-eq-true-iff, false≢true}
 use mathlib.Core.List.{List, [], _∷_, _++_, map}
 use native.Mathlib.Omega.{arith}
-use borrow.Author.Tests.{eqb-true, eqb-false, ne-eqb, leb-true, ltb-true}
+use borrow.Author.Tests.{eqb-true, eqb-false, leb-true, ltb-true}
 use lib.Dec.{eqb, leb, ltb}
 use Rattle.model.specs.Bits.{number}
 use Rattle.model.specs.Layouts.{Field, Body, Row, field-number, mapping-kinds, mapping-bodies, other-event-kinds, bytes-of, offset-in, width-in, row-test, known-in, kind-of, mapping-kind, event-kind, body-of, length-of, field}
@@ -40,19 +40,6 @@ of-mapping-kind test = at-rows-known test mapping-bodies
 pub of-event-kind : (test : ℕ → Bool) → at-rows test (mapping-bodies ++ other-event-kinds) ≡ true → (k : ℕ) → event-kind k ≡ true → test k ≡ true
 unfolding event-kind
 of-event-kind test = at-rows-known test (mapping-bodies ++ other-event-kinds)
-
--- a kind of mapping is a kind of event
-known-in-append : (rows more : List (ℕ × Body)) (k : ℕ) → known-in rows k ≡ true → known-in (rows ++ more) k ≡ true
-known-in-append [] more k = λ known. absurd (false≢true known)
-known-in-append (row ∷ rows) more k = go (eqb k (row .0)) (known-in-append rows more k)
-  where
-    go : (b : Bool) → (known-in rows k ≡ true → known-in (rows ++ more) k ≡ true) → cond b true (known-in rows k) ≡ true → cond b true (known-in (rows ++ more) k) ≡ true
-    go true rest known = refl
-    go false rest known = rest known
-
-pub event-kind-of-mapping : (k : ℕ) → mapping-kind k ≡ true → event-kind k ≡ true
-unfolding mapping-kind event-kind
-event-kind-of-mapping = known-in-append mapping-bodies other-event-kinds
 
 -- a test that holds of a row holds of known kinds alone
 pub row-test-known : (test : Row → Bool) (k : ℕ) → row-test test mapping-kinds k ≡ true → mapping-kind k ≡ true
@@ -111,15 +98,6 @@ agrees-below f g n all f-below g-below k = go (f k) (g k) refl refl
 pub mapping-kind-below : (k : ℕ) → mapping-kind k ≡ true → k < 64
 mapping-kind-below k known = ltb-true k 64 (of-mapping-kind (λ k. ltb k 64) refl k known)
 
--- what holds of each of the six kinds of mappings holds of a known kind
-pub mapping-kind-cases : (P : ℕ → Type 0) → P 1 → P 2 → P 3 → P 4 → P 5 → P 6 → (k : ℕ) → mapping-kind k ≡ true → P k
-unfolding mapping-kind
-mapping-kind-cases P p1 p2 p3 p4 p5 p6 k =
-    row-cases P 1 k _ _ p1
-    (row-cases P 2 k _ _ p2
-    (row-cases P 3 k _ _ p3
-    (row-cases P 4 k _ _ p4 (row-cases P 5 k _ _ p5 (row-cases P 6 k _ _ p6 (λ e. absurd (false≢true e)))))))
-
 -- they are those from 1 to 6
 pub mapping-kind-range : (k : ℕ) → mapping-kind k ≡ (leb 1 k && leb k 6)
 unfolding mapping-kind
@@ -129,22 +107,6 @@ mapping-kind-range =
 
 pub mapping-kind-le : (k : ℕ) → mapping-kind k ≡ true → k ≤ 6
 mapping-kind-le k known = leb-true k 6 (of-mapping-kind (λ k. leb k 6) refl k known)
-
--- the kind is none of a table's, as a `match` over the table's kinds says it, behind what was known
--- before
-abbrev pub None : Type 0 → List (ℕ × Body) → ℕ → Type 0
-None before [] k = before
-None before (row ∷ rows) k = None (before × (k ≡ row .0 → ⊥)) rows k
-
-none-before : (before : Type 0) (rows : List (ℕ × Body)) (k : ℕ) → None before rows k → before
-none-before before [] k none = none
-none-before before (row ∷ rows) k none = none-before (before × (k ≡ row .0 → ⊥)) rows k none .0
-
-pub known-in-none : (before : Type 0) (rows more : List (ℕ × Body)) (k : ℕ) → None before rows k → known-in more k ≡ false → known-in (rows ++ more) k ≡ false
-known-in-none before [] more k none rest = rest
-known-in-none before (row ∷ rows) more k none rest =
-    let now = before × (k ≡ row .0 → ⊥) in
-    rw (ne-eqb k (row .0) (none-before now rows k none .1)) (known-in-none now rows more k none rest)
 
 -- a record or event has a kind byte
 pub length-of-positive : (kind : ℕ) → 0 < length-of kind

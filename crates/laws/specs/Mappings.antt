@@ -13,7 +13,6 @@ use borrow.Author.Tests.{eqb-true, leb-true, le-leb, lt-leb}
 use Rattle.model.specs.Bits.{number}
 use Rattle.model.specs.Layouts.{Field, Sort, sort-number, kind-of, mapping-kind, body-of, length-of}
 use Rattle.model.specs.Mappings.{mapping, Held, of-sort, linear, guest-physical, combined, structure-cache, global-marked, fields-in-range, starts-record, record-length, reading}
-use Rattle.model.specs.declared.Mapping.{Mapping}
 use Rattle.model.specs.declared.Reading.the-variants.{Record, Nothing}
 use Rattle.laws.specs.Lists.{Agree, agree-append, agree-take}
 use Rattle.laws.specs.Layouts.{of-mapping-kind, field-by-test, agrees, agrees-true, agrees-below, mapping-kind-below, below, row-test-known, kind-agree, field-agree, length-of-positive}
@@ -48,14 +47,6 @@ tagged-known k = go (linear k) refl
 pub global-marked-known : (k : ℕ) → global-marked k ≡ true → mapping-kind k ≡ true
 unfolding global-marked
 global-marked-known k holds = tagged-known k (and-eq-true-iff (linear k || combined k) (not (structure-cache k)) .0 holds .0)
-
--- no mapping is guest-physical and combined
-pub sorts-apart : (k : ℕ) → (guest-physical k && combined k) ≡ false
-unfolding guest-physical combined
-sorts-apart =
-    agrees-below (λ k. guest-physical k && combined k) (λ k. false) 64 refl
-    (λ k both. mapping-kind-below k (guest-physical-known k (and-eq-true-iff (guest-physical k) (combined k) .0 both .0)))
-    (λ k none. absurd (false≢true none))
 
 -- the kinds of each sort, the structure caches, and those with a global mark, by number
 either-below : (a b : ℕ) → a < 64 → b < 64 → (k : ℕ) → (eqb k a || eqb k b) ≡ true → k < 64
@@ -224,26 +215,6 @@ reading-nothing r none = rw (starts-record-length-zero r none)
 pub reading-record : (r : List ℕ) → 0 < record-length r → reading r ≡ Record (mapping r) (record-length r)
 unfolding reading record-length
 reading-record r some = rw (starts-record-length r some)
-
--- and what its answer says of the bytes
-pub starts-reading-record : (r : List ℕ) (m : Mapping) (n : ℕ) → reading r ≡ Record m n
-    → (starts-record r ≡ true) × ((m ≡ mapping r) × (n ≡ length-of (kind-of r)))
-unfolding reading
-starts-reading-record r m n h = go (starts-record r) refl h
-  where
-    go : (b : Bool) → starts-record r ≡ b → cond b (Record (mapping r) (length-of (kind-of r))) Nothing ≡ Record m n
-        → (starts-record r ≡ true) × ((m ≡ mapping r) × (n ≡ length-of (kind-of r)))
-    go true e k = (e, (cc, cc))
-    go false e k = absurd (let z : _≡_ {A = ℕ} 0 1 = cc in omega arith)
-
-pub starts-reading-nothing : (r : List ℕ) → reading r ≡ Nothing → starts-record r ≡ false
-unfolding reading
-starts-reading-nothing r h = go (starts-record r) refl h
-  where
-    go : (b : Bool) → starts-record r ≡ b → cond b (Record (mapping r) (length-of (kind-of r))) Nothing ≡ Nothing
-        → starts-record r ≡ false
-    go true e k = absurd (let z : _≡_ {A = ℕ} 0 1 = cc in omega arith)
-    go false e k = e
 
 -- bytes after a record do not matter for its length
 pub record-length-agree : (r t : List ℕ) → Agree (length-of (kind-of t)) r t → length-of (kind-of t) ≤ length r

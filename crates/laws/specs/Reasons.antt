@@ -13,7 +13,6 @@ use Rattle.model.specs.declared.Event.{Event}
 use Rattle.model.specs.declared.Mapping.{Mapping}
 use Rattle.model.specs.declared.Reason.{Reason}
 use Rattle.model.specs.declared.Reason.the-variants.{NoScope, NotCanonical, WrongKind, WrongVpid, WrongPcid, WrongEp4ta, NotCovering, SparedAsGlobal, InScope}
-use Rattle.model.specs.declared.Explanation.{Explanation}
 use Rattle.model.specs.declared.Explanation.the-variants.{Refused, Accepted}
 use Rattle.model.specs.Context.{in-range}
 use Rattle.model.specs.Layouts.{kind-of, mapping-kind, length-of}

@@ -86,9 +86,6 @@ count-complement p (r ∷ rs) = go (p r) (count-complement p rs)
     go true h = omega arith
     go false h = omega arith
 
-pub count-le : (p : List ℕ → Bool) (rs : List (List ℕ)) → count p rs ≤ length rs
-count-le p rs = omega (arith, count-complement p rs)
-
 pub count-one : (p : List ℕ → Bool) (r : List ℕ) → count p (r ∷ []) ≡ cond (p r) 1 0
 unfolding count only
 count-one p r = go (p r)

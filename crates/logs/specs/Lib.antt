@@ -6,3 +6,4 @@ pub mod State
 pub mod Stops
 pub mod Ends
 pub mod Laws
+pub mod Cards

@@ -4,3 +4,4 @@ pub mod Book
 pub mod Runs
 pub mod Apart
 pub mod Laws
+pub mod Cards

@@ -111,6 +111,7 @@ fn closed_descriptors() {
         "help",
         "library",
         "fuzz",
+        "mutants",
         "bench",
         "test",
     ] {
@@ -151,6 +152,7 @@ fn the_other_programs() {
     let checkout = Checkout::bare();
     for command in [
         "fuzz 1 1",
+        "mutants 1 1",
         "bench",
         "disassemble three.log",
         "help",
@@ -165,7 +167,7 @@ fn the_other_programs() {
             run.said
         );
     }
-    for command in ["fuzz 1 1", "bench"] {
+    for command in ["fuzz 1 1", "mutants 1 1", "bench"] {
         // `true` is gone when the first line is written.
         let run = checkout.sh(&format!(
             "{{ sleep 0.2; ./skuldrefn {command}; echo $? >&2; }} | true"

@@ -2,13 +2,14 @@
 
 use entry::{Checkout, THREE};
 
-const COMMANDS: [&str; 7] = [
+const COMMANDS: [&str; 8] = [
     "replay",
     "assemble",
     "disassemble",
     "library",
     "test",
     "fuzz",
+    "mutants",
     "bench",
 ];
 
@@ -38,6 +39,9 @@ fn words_that_are_not_taken() {
         "fuzz -1",
         "fuzz --case",
         "fuzz --case a b",
+        "mutants many",
+        "mutants 1 2 3",
+        "mutants --case x",
         "bench x",
         "bench --csv",
         "bench --csv ''",

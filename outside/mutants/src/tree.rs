@@ -12,18 +12,22 @@ pub struct Part {
     pub uses: Vec<String>,
 }
 
+/// A file of definitions: its name below the top folder, and its crate.
+#[derive(Clone)]
+pub struct Definitions {
+    pub name: String,
+    pub crate_name: String,
+}
+
 /// The copy, lowest crate first.
 pub struct Tree {
-    pub top: PathBuf,
-    pub parts: Vec<Part>,
+    top: PathBuf,
+    parts: Vec<Part>,
 }
 
 impl Tree {
-    /// Copies the definitions of the repository at `from` to `to`, which is made anew.
+    /// Copies the definitions of the repository at `from` to `to`, which is not there yet.
     pub fn copied(from: &Path, to: &Path) -> io::Result<Tree> {
-        if to.exists() {
-            fs::remove_dir_all(to)?;
-        }
         fs::create_dir_all(to.join("crates"))?;
         let listed = listed(&fs::read_to_string(from.join("crates.txt"))?);
         let has_specs = |name: &str| from.join("crates").join(name).join("specs").is_dir();
@@ -63,22 +67,35 @@ impl Tree {
         })
     }
 
-    /// The files of definitions, with the crate of each: not the laws, nor the cards and what they are made of.
-    pub fn definitions(&self) -> io::Result<Vec<(String, PathBuf)>> {
+    /// The files of definitions: not the laws, nor the cards and what they are made of.
+    pub fn definitions(&self) -> io::Result<Vec<Definitions>> {
         let mut files = Vec::new();
-        for part in &self.parts {
-            if part.name == "laws" {
-                continue;
-            }
-            let specs = self.top.join("crates").join(&part.name).join("specs");
-            let mut here: Vec<PathBuf> = fs::read_dir(specs)?
-                .map(|entry| entry.map(|e| e.path()))
+        for part in self.parts.iter().filter(|part| part.name != "laws") {
+            let specs = format!("crates/{}/specs", part.name);
+            let mut here: Vec<String> = fs::read_dir(self.top.join(&specs))?
+                .map(|entry| entry.map(|e| e.file_name().to_string_lossy().into_owned()))
                 .collect::<io::Result<_>>()?;
-            here.retain(|p| p.extension().is_some_and(|e| e == "antt") && !is_apart(p));
+            here.retain(|name| is_of_definitions(name));
             here.sort();
-            files.extend(here.into_iter().map(|p| (part.name.clone(), p)));
+            files.extend(here.into_iter().map(|name| Definitions {
+                name: format!("{specs}/{name}"),
+                crate_name: part.name.clone(),
+            }));
         }
         Ok(files)
+    }
+
+    /// Where a file of definitions stands in this copy.
+    pub fn path(&self, definitions: &Definitions) -> PathBuf {
+        self.top.join(&definitions.name)
+    }
+
+    /// The first crate that is not proved of all.
+    pub fn refusing_from_the_lowest(&self) -> io::Result<Option<String>> {
+        match self.parts.first() {
+            Some(lowest) => self.refusing(&lowest.name),
+            None => Ok(None),
+        }
     }
 
     /// The first crate that is not proved, of one and those above it; none where all are.
@@ -114,9 +131,9 @@ fn is_of_the_kit(name: &str) -> bool {
     ["check", "libc", "io", "os", "bytes"].contains(&name)
 }
 
-fn is_apart(path: &Path) -> bool {
-    let stem = path.file_stem().and_then(|s| s.to_str()).unwrap_or("");
-    ["Lib", "Laws", "Cards", "Examples"].contains(&stem)
+fn is_of_definitions(file: &str) -> bool {
+    file.strip_suffix(".antt")
+        .is_some_and(|stem| !["Lib", "Laws", "Cards"].contains(&stem))
 }
 
 /// The crates of a crates.txt, in its order.

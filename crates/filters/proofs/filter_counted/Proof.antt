@@ -4,7 +4,6 @@ use borrow.Author.Needs.{needs}
 use borrow.Author.Tests.{not-true, not-false}
 use mathlib.Core.Path.{sym, _∙_}
 use native.Mathlib.Nat.{zero-add}
-use denote.Ref.{now}
 use Rattle.laws.specs.Scopes.{out-of-scope}
 use Rattle.filters.specs.Laws.Filters.{filters-all, filters-none}
 use Rattle.filters.proofs.filter_counted.Statement.{statement}

@@ -1,5 +1,5 @@
 -- The length that is told, or what is left.
-use mathlib.Core.Path.{sym, _∙_}
+use mathlib.Core.Path.{sym}
 use borrow.Author.Needs.{needs}
 use denote.Ref.{now}
 use Rattle.logs.specs.Laws.Logs.{event-size-told}

@@ -1,10 +1,6 @@
 -- The number of its kind is where the layout has the span.
 use borrow.Author.Needs.{needs}
-use mathlib.Core.Path.{_∙_, ap, subst, sym}
-use Rattle.model.specs.Layouts.{Field}
 use Rattle.model.specs.Mappings.{mapping}
-use Rattle.kinds.specs.Places.{place-of}
-use Rattle.mappings.specs.Spans.{SpanAt}
 use Rattle.mappings.specs.Laws.Places.{span-at-held}
 use Rattle.mappings.proofs.span_at.Statement.{statement}
 use Rattle.mappings.proofs.span_at.Tie as tie

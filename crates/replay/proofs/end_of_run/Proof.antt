@@ -1,7 +1,6 @@
 -- Each turn goes on by at least one byte, and stays within the log, so that the events are no more than bytes.
 use borrow.Author.Needs.{needs}
 use Prim.Native.Nat.{_+_, _-_, _≤_}
-use native.Mathlib.Omega.{arith}
 use lib.ListN.{length}
 use Rattle.replay.proofs.end_of_run.Statement.{statement}
 use Rattle.replay.proofs.end_of_run.Tie as tie

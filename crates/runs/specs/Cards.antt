@@ -1,0 +1,47 @@
+-- Rows about the records of a VPID and of an EP4TA (document 02, Ask 14), all under one statement.
+use Prim.Native.Nat.{ℕ}
+use mathlib.Core.Bool.{Bool, true, not, _&&_}
+use mathlib.Core.List.{List, [], _∷_, _++_}
+use mathlib.Core.Path.{_≡_, refl}
+use Rattle.model.specs.Bits.{bytes}
+use Rattle.model.specs.Layouts.{kind-of, body-of, field}
+use Rattle.model.specs.Mappings.{mapping, linear, guest-physical, combined}
+use Rattle.runs.specs.Apart.{of-vpid, of-ep4ta}
+
+-- a record of a kind whose other bytes are those of two tags: VPID 5 and PCID 6 at the front, or EP4TA 7; and EP4TA
+-- 7 at the end
+by-vpid : ℕ → List ℕ → List ℕ
+by-vpid kind body = kind ∷ bytes 2 5 ++ bytes 2 6 ++ body ++ bytes 10 0 ++ bytes 5 7
+
+by-ep4ta : ℕ → List ℕ
+by-ep4ta kind = kind ∷ bytes 5 7 ++ bytes 11 0
+
+-- "the same records of V among kinds 1, 3, 4 and 6": that very VPID, and no record without one
+vpids : Bool
+vpids =
+    of-vpid 5 (by-vpid 1 (0 ∷ 0 ∷ []))
+    && of-vpid 5 (by-vpid 3 (0 ∷ 0 ∷ []))
+    && of-vpid 5 (by-vpid 4 (1 ∷ []))
+    && of-vpid 5 (by-vpid 6 (1 ∷ []))
+    && not (of-vpid 4 (by-vpid 1 (0 ∷ 0 ∷ [])))
+    && not (of-vpid 6 (by-vpid 1 (0 ∷ 0 ∷ [])))
+    && not (of-vpid 0 (by-ep4ta 2))
+    && not (of-vpid 7 (by-ep4ta 2))
+    && not (of-vpid 0 (by-ep4ta 5))
+
+-- "the like for guest-physical records by EP4TA": that very EP4TA, and no combined record of it
+ep4tas : Bool
+ep4tas =
+    of-ep4ta 7 (by-ep4ta 2)
+    && of-ep4ta 7 (by-ep4ta 5)
+    && not (of-ep4ta 6 (by-ep4ta 2))
+    && not (of-ep4ta 8 (by-ep4ta 2))
+    && not (of-ep4ta 7 (by-vpid 3 (0 ∷ 0 ∷ [])))
+    && not (of-ep4ta 7 (by-vpid 6 (1 ∷ [])))
+    && not (of-ep4ta 0 (by-vpid 1 (0 ∷ 0 ∷ [])))
+    && not (of-ep4ta 0 (by-vpid 4 (1 ∷ [])))
+
+-- Every row holds.
+cards-hold : (vpids && ep4tas) ≡ true
+unfolding by-vpid by-ep4ta vpids ep4tas of-vpid of-ep4ta bytes kind-of body-of field mapping linear guest-physical combined
+cards-hold = refl
