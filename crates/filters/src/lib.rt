@@ -1,12 +1,14 @@
 // The pass that writes the records of a table that an event does not drop.
 use model::Context;
 use model::Event;
+use queries::Query;
 ghost use mathlib.Core.Path.{_≡_};
 ghost use mathlib.Core.Bool.{true};
 ghost use Prim.Native.Nat.{_≤_};
 ghost use lib.ListN.{length};
 ghost use Rattle.model.specs.Tables.{whole, records};
-ghost use Rattle.model.specs.Scopes.{has-scope};
+ghost use Rattle.model.specs.Scopes.{passed, scope};
+ghost use Rattle.queries.specs.Queries.{query-tests};
 ghost use Rattle.filters.specs.Filters.{Filters};
 
 // How long the records left are together, and how many were dropped.
@@ -15,13 +17,12 @@ pub struct Filtered {
     pub dropped: usize,
 }
 
-// Writes the records that are not in the scope of an event that has one to the front of the new buffer, in
-// order. A run of such records is copied whole, when a dropped record or the end of the table ends it.
-fn filter(c: Context, e: Event, table: &[u8], new: &mut [u8]) -> Filtered
-    requires { ⌜ has-scope c e ≡ true ⌝ }
+// Writes the records that do not pass a query to the front of the new buffer, in order. A run of such records is
+// copied whole, when a record that passes or the end of the table ends it.
+fn filter(q: Query, table: &[u8], new: &mut [u8]) -> Filtered
     requires { ⌜ whole (now table) ≡ true ⌝ }
     requires { ⌜ length (now table) ≤ length (now new) ⌝ }
-    ensures { λ r. ⌜ Filters c e (now (table .entry)) (now (new .entry)) r (now (new .exit)) ⌝ }
+    ensures { λ r. ⌜ Filters (λ m. passed (query-tests q m)) (now (table .entry)) (now (new .entry)) r (now (new .exit)) ⌝ }
 {
     let mut at = 0;
     let mut from = 0;
@@ -30,7 +31,7 @@ fn filter(c: Context, e: Event, table: &[u8], new: &mut [u8]) -> Filtered
     while at < table.len() {
         let part = &table[at..];
         let end = at + mappings::length_of_held(part);
-        if scopes::is_in_scope(c, e, part) {
+        if queries::is_passing(q, part) {
             to = buffers::put(&table[from..at], new, to);
             from = end;
             dropped += 1;
@@ -44,13 +45,13 @@ fn filter(c: Context, e: Event, table: &[u8], new: &mut [u8]) -> Filtered
     }
 }
 
-// The same of a table whose records are counted: an event with no record in scope takes one copy, and
-// a reset, which drops every record, none.
+// Writes the records of a table that are not in the scope of an event, in the same way. The records are
+// counted: an event with no record in scope takes one copy, and a reset, which drops every record, none.
 pub fn filter_counted(c: Context, e: Event, table: &[u8], count: usize, new: &mut [u8]) -> Filtered
     requires { ⌜ whole (now table) ≡ true ⌝ }
     requires { ⌜ length (now table) ≤ length (now new) ⌝ }
     requires { ⌜ count ≡ length (records (now table)) ⌝ }
-    ensures { λ r. ⌜ Filters c e (now (table .entry)) (now (new .entry)) r (now (new .exit)) ⌝ }
+    ensures { λ r. ⌜ Filters (scope c e) (now (table .entry)) (now (new .entry)) r (now (new .exit)) ⌝ }
 {
     if !scopes::has_scope(c, e) {
         return Filtered {
@@ -63,6 +64,9 @@ pub fn filter_counted(c: Context, e: Event, table: &[u8], count: usize, new: &mu
             length: 0,
             dropped: count,
         },
-        _ => filter(c, e, table, new),
+        _ => {
+            let q = scopes::query(c, e);
+            filter(q, table, new)
+        }
     }
 }

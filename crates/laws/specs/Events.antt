@@ -128,9 +128,11 @@ event-creation-kind e m h =
   where
     apart : _≡_ {A = ℕ} 0 1 → ⊥
     apart z = omega arith
+
     first : (b : Bool) (rest : Event) → (rest ≡ Creation m → ⊥) → cond b (Creation (mapping e)) rest ≡ Creation m → b ≡ true
     first true rest other h = refl
     first false rest other h = absurd (other h)
+
     neither : (b : Bool) (x y : Event) → (x ≡ Creation m → ⊥) → (y ≡ Creation m → ⊥) → cond b x y ≡ Creation m → ⊥
     neither true x y p q = p
     neither false x y p q = q

@@ -66,6 +66,11 @@ only-swap p q (r ∷ rs) = go (p r) (q r) refl refl (only-swap p q rs)
     go false true e f h = rw (e, h)
     go false false e f h = h
 
+pub only-agree : {P : List ℕ → Type 0} (p q : List ℕ → Bool) {rs : List (List ℕ)} → Every P rs → ((r : List ℕ) → P r → p r ≡ q r) → only p rs ≡ only q rs
+unfolding only
+only-agree p q none same = refl
+only-agree p q (more {x} {xs} h hs) same = rw (same x h, only-agree p q hs same)
+
 pub every-only : {P : List ℕ → Type 0} (p : List ℕ → Bool) {rs : List (List ℕ)} → Every P rs → Every P (only p rs)
 unfolding only
 every-only p none = none

@@ -2,10 +2,12 @@
 // of the table that starts at its kind byte; what follows the record is not looked at.
 use model::Mapping;
 use model::Reading;
+ghost use mathlib.Core.Bool.{false};
 ghost use mathlib.Core.Path.{_≡_};
 ghost use Prim.Native.Nat.{_≤_};
+ghost use Rattle.model.specs.Bits.{number};
 ghost use Rattle.model.specs.Layouts.{kind-of, length-of};
-ghost use Rattle.model.specs.Mappings.{mapping, Held, record-length, reading, page-in-range, fields-in-range, global-translation, covers};
+ghost use Rattle.model.specs.Mappings.{mapping, guest-physical, Held, record-length, reading, page-in-range, fields-in-range, global-translation, covers};
 ghost use Rattle.mappings.specs.Spans.{SpanAt};
 
 // The page is below 2^36 and a multiple of the span's pages.
@@ -100,25 +102,38 @@ pub fn length_of_record(part: &[u8]) -> usize
     if is_in_ranges(part) { length } else { 0 }
 }
 
-// The VPID of the record at the front; 0 where its kind has none.
+// The two bytes where a VPID stands in the record at the front; of a guest-physical mapping, which has none, they
+// are a part of its EP4TA.
+pub fn vpid_bytes(part: &[u8]) -> u64
+    requires { ⌜ Held (now part) ⌝ }
+    ensures { λ r. ⌜ r ≡ number 2 1 (now (part .entry)) ⌝ }
+    ensures { λ r. ⌜ (guest-physical (mapping (now (part .entry)) .kind) ≡ false → r ≡ mapping (now (part .entry)) .vpid) ⌝ }
+{
+    numbers::number2(part, 1)
+}
+
+// The VPID of the record at the front; 0 where its kind has none. Its bytes are read in any case, so that no
+// branch is taken on the kind.
 pub fn vpid(part: &[u8]) -> u64
     requires { ⌜ Held (now part) ⌝ }
     ensures { λ r. ⌜ r ≡ mapping (now (part .entry)) .vpid ⌝ }
 {
+    let number = vpid_bytes(part);
     if !kinds::is_guest_physical(kind(part)) {
-        numbers::number2(part, 1)
+        number
     } else {
         0
     }
 }
 
-// The PCID of the record at the front; 0 where its kind has none.
+// The PCID of the record at the front, in the same way.
 pub fn pcid(part: &[u8]) -> u64
     requires { ⌜ Held (now part) ⌝ }
     ensures { λ r. ⌜ r ≡ mapping (now (part .entry)) .pcid ⌝ }
 {
+    let number = numbers::number2(part, 3);
     if !kinds::is_guest_physical(kind(part)) {
-        numbers::number2(part, 3)
+        number
     } else {
         0
     }

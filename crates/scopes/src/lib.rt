@@ -1,159 +1,190 @@
-// The required scope of each event, and why a record is out of it. The tests of an event are put in the
-// order of the reasons. A record is handed in as the part of the table that starts at its kind byte, and
-// only the fields that an event asks for are read.
+// The required scope of each event: whether it has one, and what it asks of a record.
 use model::Context;
+use model::Ept;
 use model::Event;
 use model::Operands;
 use model::Reason;
 use model::Violation;
-ghost use mathlib.Core.Bool.{true};
+use queries::Query;
+use queries::Tags;
+ghost use mathlib.Core.Bool.{cond};
 ghost use mathlib.Core.Path.{_≡_};
+ghost use lib.Dec.{eqb};
 ghost use Rattle.model.specs.Mappings.{mapping, Held};
-ghost use Rattle.model.specs.Scopes.{vpid-tagged, invvpid-tests, invept-tests, invlpg-tests, guest-physical-violation-tests, combined-violation-tests, transition-tests, asked, has-scope, scope};
-ghost use Rattle.model.specs.Reasons.{unless, first-failed, drops, reason};
+ghost use Rattle.model.specs.Scopes.{vpid-named, ep4ta-of, no-tests, invvpid-tests, invept-tests, invlpg-tests, violation-tests, transition-tests, asked, has-scope};
+ghost use Rattle.model.specs.Reasons.{reason};
+ghost use Rattle.queries.specs.Queries.{any, only, all-but, Meets};
+ghost use Rattle.scopes.specs.Tags.{tags-of-ept};
 
-// The record is a linear or combined mapping, which carry a VPID and a PCID.
-fn is_tagged(part: &[u8]) -> bool
-    requires { ⌜ Held (now part) ⌝ }
-    ensures { λ r. ⌜ r ≡ vpid-tagged (mapping (now (part .entry))) ⌝ }
+// Sets of kinds, bit k for kind k: all six; linear and combined mappings, which carry a VPID and a PCID;
+// guest-physical and combined ones, which carry an EP4TA; and guest-physical ones alone.
+const ALL: u64 = 0x7E;
+
+const WITH_VPID: u64 = 0x5A;
+
+const WITH_EP4TA: u64 = 0x6C;
+
+const GUEST_PHYSICAL: u64 = 0x24;
+
+// Nothing is asked of a record.
+fn no_query() -> Query
+    ensures { λ r. ⌜ Meets (λ m. no-tests) r ⌝ }
 {
-    let kind = mappings::kind(part);
-    kinds::is_linear(kind) | kinds::is_combined(kind)
+    let any = queries::any();
+    Query {
+        kinds: ALL,
+        vpid: any,
+        further: false,
+        pcid: any,
+        global: false,
+        ep4ta: any,
+        covering: false,
+        structures: false,
+        physical: 0,
+        linear: 0,
+        sparing: false,
+    }
 }
 
-// In scope if the last test is passed, else out of it for a reason.
-fn last_test(passed: bool, failed: Reason) -> Reason
-    ensures { λ r. ⌜ r ≡ unless passed failed Reason.InScope ⌝ }
+// The VPIDs that an INVVPID touches: every one but 0 with type 2, else the named one.
+fn vpids_named(o: Operands) -> Tags
+    ensures { λ r. ⌜ r ≡ cond (eqb (o .«type_number») 2) (all-but 0) (only (vpid-named o)) ⌝ }
 {
-    if passed { Reason::InScope } else { failed }
+    if o.type_number == 2 {
+        return queries::all_but(0);
+    }
+    queries::only(o.low % 65536)
 }
 
-// What an INVVPID says of a record.
-fn invvpid_reason(o: Operands, part: &[u8]) -> Reason
-    requires { ⌜ Held (now part) ⌝ }
-    ensures { λ r. ⌜ r ≡ first-failed (invvpid-tests o (mapping (now (part .entry)))) ⌝ }
+// What an INVVPID asks: types 0 and 3 more than the VPID.
+fn invvpid_query(o: Operands) -> Query
+    ensures { λ r. ⌜ Meets (invvpid-tests o) r ⌝ }
 {
-    if !is_tagged(part) {
-        return Reason::WrongKind;
+    let any = queries::any();
+    let vpid = vpids_named(o);
+    Query {
+        kinds: WITH_VPID,
+        vpid,
+        further: (o.type_number == 0) | !(o.type_number <= 2),
+        pcid: any,
+        global: false,
+        ep4ta: any,
+        covering: o.type_number == 0,
+        structures: true,
+        physical: 0,
+        linear: addresses::page(o.high),
+        sparing: !(o.type_number <= 2),
     }
-    let type_number = o.type_number;
-    let vpid = mappings::vpid(part);
-    if type_number == 2 {
-        return last_test(vpid != 0, Reason::WrongVpid);
-    }
-    if vpid != o.low % 65536 {
-        return Reason::WrongVpid;
-    }
-    if type_number == 0 {
-        return last_test(
-            mappings::is_covering(part, addresses::page(o.high)),
-            Reason::NotCovering,
-        );
-    }
-    if type_number <= 2 {
-        return Reason::InScope;
-    }
-    last_test(
-        !mappings::is_global_translation(part),
-        Reason::SparedAsGlobal,
-    )
 }
 
-// What an INVEPT says of a record.
-fn invept_reason(o: Operands, part: &[u8]) -> Reason
-    requires { ⌜ Held (now part) ⌝ }
-    ensures { λ r. ⌜ r ≡ first-failed (invept-tests o (mapping (now (part .entry)))) ⌝ }
+// What an INVEPT asks: type 1 the EP4TA of the EPTP.
+fn invept_query(o: Operands) -> Query
+    ensures { λ r. ⌜ Meets (invept-tests o) r ⌝ }
 {
-    let kind = mappings::kind(part);
-    if !(kinds::is_guest_physical(kind) | kinds::is_combined(kind)) {
-        return Reason::WrongKind;
+    let any = queries::any();
+    let ep4ta = queries::only(addresses::ep4ta(o.low));
+    Query {
+        kinds: WITH_EP4TA,
+        vpid: any,
+        further: o.type_number == 1,
+        pcid: any,
+        global: false,
+        ep4ta,
+        covering: false,
+        structures: false,
+        physical: 0,
+        linear: 0,
+        sparing: false,
     }
-    if o.type_number == 1 {
-        return last_test(
-            mappings::ep4ta(part) == addresses::ep4ta(o.low),
-            Reason::WrongEp4ta,
-        );
-    }
-    Reason::InScope
 }
 
-// What an INVLPG at a canonical address says of a record.
-fn invlpg_reason(c: Context, address: u64, part: &[u8]) -> Reason
-    requires { ⌜ Held (now part) ⌝ }
-    ensures { λ r. ⌜ r ≡ first-failed (invlpg-tests c address (mapping (now (part .entry)))) ⌝ }
+// What an INVLPG at a canonical address asks.
+fn invlpg_query(c: Context, address: u64) -> Query
+    ensures { λ r. ⌜ Meets (invlpg-tests c address) r ⌝ }
 {
-    if !is_tagged(part) {
-        return Reason::WrongKind;
-    }
     let place = c.place;
-    if mappings::vpid(part) != contexts::vpid(place) {
-        return Reason::WrongVpid;
+    let vpid = queries::only(contexts::vpid(place));
+    let pcid = queries::only(c.pcid);
+    let ep4ta = queries::any();
+    Query {
+        kinds: WITH_VPID,
+        vpid,
+        further: true,
+        pcid,
+        global: true,
+        ep4ta,
+        covering: true,
+        structures: false,
+        physical: 0,
+        linear: addresses::page(address),
+        sparing: false,
     }
-    if !((mappings::pcid(part) == c.pcid) | mappings::is_global_translation(part)) {
-        return Reason::WrongPcid;
-    }
-    if kinds::is_structure_cache(mappings::kind(part)) {
-        return Reason::InScope;
-    }
-    last_test(
-        mappings::is_covering(part, addresses::page(address)),
-        Reason::NotCovering,
-    )
 }
 
-// What an EPT violation says of a guest-physical mapping.
-fn guest_physical_violation_reason(c: Context, v: Violation, part: &[u8]) -> Reason
-    requires { ⌜ Held (now part) ⌝ }
-    ensures { λ r. ⌜ r ≡ first-failed (guest-physical-violation-tests c v (mapping (now (part .entry)))) ⌝ }
+// The EP4TA in use, and none while EPT is off.
+fn current_ep4tas(ept: Ept) -> Tags
+    ensures { λ r. ⌜ r ≡ tags-of-ept ept ⌝ }
 {
-    if !kinds::is_guest_physical(mappings::kind(part)) {
-        return Reason::WrongKind;
+    match ept {
+        Ept::Off => queries::no_tags(),
+        Ept::On(ep4ta) => queries::only(ep4ta),
     }
+}
+
+// The kinds that an EPT violation touches: combined mappings with linear flag 1 alone.
+fn kinds_of_violation(v: Violation) -> u64
+    ensures { λ r. ⌜ r ≡ cond (eqb (v .flag) 1) 0x6C 0x24 ⌝ }
+{
+    if v.flag == 1 {
+        WITH_EP4TA
+    } else {
+        GUEST_PHYSICAL
+    }
+}
+
+// What an EPT violation asks.
+fn violation_query(c: Context, v: Violation) -> Query
+    ensures { λ r. ⌜ Meets (violation-tests c v) r ⌝ }
+{
     let place = c.place;
     let ept = contexts::ept(place);
-    if !contexts::is_current_ep4ta(ept, mappings::ep4ta(part)) {
-        return Reason::WrongEp4ta;
+    let ep4ta = current_ep4tas(ept);
+    let vpid = queries::only(contexts::vpid(place));
+    let pcid = queries::only(c.pcid);
+    Query {
+        kinds: kinds_of_violation(v),
+        vpid,
+        further: true,
+        pcid,
+        global: false,
+        ep4ta,
+        covering: true,
+        structures: true,
+        physical: addresses::page(v.physical),
+        linear: addresses::page(v.linear),
+        sparing: false,
     }
-    last_test(
-        mappings::is_covering(part, addresses::page(v.physical)),
-        Reason::NotCovering,
-    )
 }
 
-// What an EPT violation says of any other mapping.
-fn combined_violation_reason(c: Context, v: Violation, part: &[u8]) -> Reason
-    requires { ⌜ Held (now part) ⌝ }
-    ensures { λ r. ⌜ r ≡ first-failed (combined-violation-tests c v (mapping (now (part .entry)))) ⌝ }
+// What a VM entry or VM exit without VPIDs asks.
+fn transition_query() -> Query
+    ensures { λ r. ⌜ Meets transition-tests r ⌝ }
 {
-    if !((v.flag == 1) & kinds::is_combined(mappings::kind(part))) {
-        return Reason::WrongKind;
+    let any = queries::any();
+    let vpid = queries::only(0);
+    Query {
+        kinds: WITH_VPID,
+        vpid,
+        further: false,
+        pcid: any,
+        global: false,
+        ep4ta: any,
+        covering: false,
+        structures: false,
+        physical: 0,
+        linear: 0,
+        sparing: false,
     }
-    let place = c.place;
-    let ept = contexts::ept(place);
-    if mappings::vpid(part) != contexts::vpid(place) {
-        return Reason::WrongVpid;
-    }
-    if mappings::pcid(part) != c.pcid {
-        return Reason::WrongPcid;
-    }
-    if !contexts::is_current_ep4ta(ept, mappings::ep4ta(part)) {
-        return Reason::WrongEp4ta;
-    }
-    last_test(
-        mappings::is_covering(part, addresses::page(v.linear)),
-        Reason::NotCovering,
-    )
-}
-
-// What a VM entry or VM exit without VPIDs says of a record.
-fn transition_reason(part: &[u8]) -> Reason
-    requires { ⌜ Held (now part) ⌝ }
-    ensures { λ r. ⌜ r ≡ first-failed (transition-tests (mapping (now (part .entry)))) ⌝ }
-{
-    if !is_tagged(part) {
-        return Reason::WrongKind;
-    }
-    last_test(mappings::vpid(part) == 0, Reason::WrongVpid)
 }
 
 // The event has a scope.
@@ -205,30 +236,22 @@ pub fn has_scope(c: Context, e: Event) -> bool
     is_scoped(c, e) & is_addressed(c, e)
 }
 
-// The first test of the event that the record fails, judged in the context. The same match stands in
-// is_in_scope: were this called there, it would not be compiled into the pass over a table.
-fn first_failed(c: Context, e: Event, part: &[u8]) -> Reason
-    requires { ⌜ Held (now part) ⌝ }
-    ensures { λ r. ⌜ r ≡ first-failed (asked c e .tests (mapping (now (part .entry)))) ⌝ }
+// What an event with a scope asks of each record, judged in the context.
+pub fn query(c: Context, e: Event) -> Query
+    ensures { λ r. ⌜ Meets (asked c e .tests) r ⌝ }
 {
     match e {
-        Event::Creation(_) => Reason::InScope,
-        Event::Invvpid(o) => invvpid_reason(o, part),
-        Event::Invept(o) => invept_reason(o, part),
-        Event::Invlpg(address) => invlpg_reason(c, address, part),
-        Event::EptViolation(v) => {
-            if kinds::is_guest_physical(mappings::kind(part)) {
-                guest_physical_violation_reason(c, v, part)
-            } else {
-                combined_violation_reason(c, v, part)
-            }
-        }
-        Event::Entry(_) => transition_reason(part),
-        Event::Exit(_) => transition_reason(part),
-        Event::Vmxon => Reason::InScope,
-        Event::Vmxoff => Reason::InScope,
-        Event::NewPcid(_) => Reason::InScope,
-        Event::Reset => Reason::InScope,
+        Event::Creation(_) => no_query(),
+        Event::Invvpid(o) => invvpid_query(o),
+        Event::Invept(o) => invept_query(o),
+        Event::Invlpg(address) => invlpg_query(c, address),
+        Event::EptViolation(v) => violation_query(c, v),
+        Event::Entry(_) => transition_query(),
+        Event::Exit(_) => transition_query(),
+        Event::Vmxon => no_query(),
+        Event::Vmxoff => no_query(),
+        Event::NewPcid(_) => no_query(),
+        Event::Reset => no_query(),
     }
 }
 
@@ -243,49 +266,6 @@ pub fn reason(c: Context, e: Event, part: &[u8]) -> Reason
     if !is_addressed(c, e) {
         return Reason::NotCanonical;
     }
-    first_failed(c, e, part)
-}
-
-// The reason is that the record is in scope, which alone drops it.
-fn is_dropping(r: Reason) -> bool
-    ensures { λ b. ⌜ b ≡ drops r ⌝ }
-{
-    match r {
-        Reason::NoScope => false,
-        Reason::NotCanonical => false,
-        Reason::WrongKind => false,
-        Reason::WrongVpid => false,
-        Reason::WrongPcid => false,
-        Reason::WrongEp4ta => false,
-        Reason::NotCovering => false,
-        Reason::SparedAsGlobal => false,
-        Reason::InScope => true,
-    }
-}
-
-// The record lies in the required scope of an event that has one, judged in the context.
-pub fn is_in_scope(c: Context, e: Event, part: &[u8]) -> bool
-    requires { ⌜ Held (now part) ⌝ }
-    requires { ⌜ has-scope c e ≡ true ⌝ }
-    ensures { λ r. ⌜ r ≡ scope c e (mapping (now (part .entry))) ⌝ }
-{
-    match e {
-        Event::Creation(_) => false,
-        Event::Invvpid(o) => is_dropping(invvpid_reason(o, part)),
-        Event::Invept(o) => is_dropping(invept_reason(o, part)),
-        Event::Invlpg(address) => is_dropping(invlpg_reason(c, address, part)),
-        Event::EptViolation(v) => {
-            if kinds::is_guest_physical(mappings::kind(part)) {
-                is_dropping(guest_physical_violation_reason(c, v, part))
-            } else {
-                is_dropping(combined_violation_reason(c, v, part))
-            }
-        }
-        Event::Entry(_) => is_dropping(transition_reason(part)),
-        Event::Exit(_) => is_dropping(transition_reason(part)),
-        Event::Vmxon => false,
-        Event::Vmxoff => false,
-        Event::NewPcid(_) => false,
-        Event::Reset => true,
-    }
+    let q = query(c, e);
+    queries::first_failed(q, part)
 }

@@ -10,17 +10,18 @@ use Rattle.mappings.proofs.pcid.Statement.{statement}
 use Rattle.mappings.proofs.pcid.Tie as tie
 
 number2-requires : tie.Need-number2-requires
-number2-requires c κs = omega (arith, held-length _ (c .before .before .before .before .pre))
+number2-requires c κs = omega (arith, held-length _ (c .before .pre))
 
 returns : tie.Need-returns
 returns c =
-    let c1 = c .before .before in
-    read-where (pcid-held _ (c1 .before .before .before .pre)) (ap not (c1 .is-guest-physical .ensures ∙ ap guest-physical (c1 .before .kind .ensures))) (c .before .if1 .taken) (c .number2 .ensures .0)
+    let c1 = c .before in
+    let c2 = c1 .before .before in
+    read-where (pcid-held _ (c2 .before .before .pre)) (ap not (c1 .is-guest-physical .ensures ∙ ap guest-physical (c1 .before .kind .ensures))) (c .if1 .taken) (c2 .number2 .ensures .0)
 
 returns-2 : tie.Need-returns-2
 returns-2 c =
     let c1 = c .before in
-    none-where _ (pcid-held _ (c1 .before .before .before .pre)) (ap not (c1 .is-guest-physical .ensures ∙ ap guest-physical (c1 .before .kind .ensures))) (c .if1 .left)
+    none-where _ (pcid-held _ (c1 .before .before .before .before .pre)) (ap not (c1 .is-guest-physical .ensures ∙ ap guest-physical (c1 .before .kind .ensures))) (c .if1 .left)
 
 pub pcid-spec : {M : Type 1} → statement M
-pcid-spec = tie.close (tie.spec (λ c κs. search needs) (λ c κs. search needs) number2-requires returns returns-2)
+pcid-spec = tie.close (tie.spec number2-requires (λ c κs. search needs) (λ c κs. search needs) returns returns-2)

@@ -2,25 +2,22 @@
 use mathlib.Core.Bool.{not}
 use borrow.Author.Needs.{needs}
 use mathlib.Core.Path.{ap, _∙_}
-use native.Mathlib.Omega.{arith}
 use Rattle.model.specs.Mappings.{guest-physical}
-use Rattle.laws.specs.Mappings.{held-length, vpid-held}
+use Rattle.laws.specs.Mappings.{vpid-held}
 use Rattle.mappings.specs.Laws.Places.{read-where, none-where}
 use Rattle.mappings.proofs.vpid.Statement.{statement}
 use Rattle.mappings.proofs.vpid.Tie as tie
 
-number2-requires : tie.Need-number2-requires
-number2-requires c κs = omega (arith, held-length _ (c .before .before .before .before .pre))
-
 returns : tie.Need-returns
 returns c =
-    let c1 = c .before .before in
-    read-where (vpid-held _ (c1 .before .before .before .pre)) (ap not (c1 .is-guest-physical .ensures ∙ ap guest-physical (c1 .before .kind .ensures))) (c .before .if1 .taken) (c .number2 .ensures .0)
+    let c1 = c .before in
+    let c2 = c1 .before .before in
+    read-where (vpid-held _ (c2 .before .before .pre)) (ap not (c1 .is-guest-physical .ensures ∙ ap guest-physical (c1 .before .kind .ensures))) (c .if1 .taken) (c2 .vpid-bytes .ensures .0)
 
 returns-2 : tie.Need-returns-2
 returns-2 c =
     let c1 = c .before in
-    none-where _ (vpid-held _ (c1 .before .before .before .pre)) (ap not (c1 .is-guest-physical .ensures ∙ ap guest-physical (c1 .before .kind .ensures))) (c .if1 .left)
+    none-where _ (vpid-held _ (c1 .before .before .before .before .pre)) (ap not (c1 .is-guest-physical .ensures ∙ ap guest-physical (c1 .before .kind .ensures))) (c .if1 .left)
 
 pub vpid-spec : {M : Type 1} → statement M
-vpid-spec = tie.close (tie.spec (λ c κs. search needs) (λ c κs. search needs) number2-requires returns returns-2)
+vpid-spec = tie.close (tie.spec (λ c κs. search needs) (λ c κs. search needs) (λ c κs. search needs) returns returns-2)

@@ -6,7 +6,7 @@ use native.Mathlib.Omega.{arith}
 use denote.Ref.{now}
 use lib.ListN.{length, length-append}
 use Rattle.model.specs.Answers.{created}
-use Rattle.model.specs.Scopes.{next-context}
+use Rattle.model.specs.Scopes.{scope, next-context}
 use Rattle.model.specs.Steps.{new-table}
 use Rattle.laws.specs.Buffers.{put-put-front}
 use Rattle.laws.specs.Steps.{accepted-step-is}
@@ -19,12 +19,12 @@ add-creation-requires : tie.Need-add-creation-requires
 add-creation-requires c κs =
     let a = c .before .before .before .before .before .before .before .before .args in
     let filter = c .before .before .before .filter-counted in
-    omega (arith, filter .ensures .size, length-filtered (a .c) (a .e) (now (a .table)), filter .kept .1 .1 .1 .1 .0)
+    omega (arith, filter .ensures .size, length-filtered (scope (a .c) (a .e)) (now (a .table)), filter .kept .1 .1 .1 .1 .0)
 
 -- the new table, in its two parts
 parts : (c : tie.After-add-creation)
     → new-table (c .before .before .before .before .before .before .before .before .before .args .c) (now (c .before .before .before .before .before .before .before .before .before .args .table)) (now (c .before .before .before .before .before .before .before .before .before .args .raw))
-    ≡ filtered (c .before .before .before .before .before .before .before .before .before .args .c) (c .before .before .before .before .before .before .before .before .before .args .e) (now (c .before .before .before .before .before .before .before .before .before .args .table)) ++ created (now (c .before .before .before .before .before .before .before .before .before .args .raw))
+    ≡ filtered (scope (c .before .before .before .before .before .before .before .before .before .args .c) (c .before .before .before .before .before .before .before .before .before .args .e)) (now (c .before .before .before .before .before .before .before .before .before .args .table)) ++ created (now (c .before .before .before .before .before .before .before .before .before .args .raw))
 parts c = new-table-filtered _ _ _ (c .before .before .before .before .before .before .before .before .before .pre .0)
 
 -- its length is told
@@ -32,7 +32,7 @@ size : (c : tie.After-add-creation)
     → c .add-creation .result ≡ length (new-table (c .before .before .before .before .before .before .before .before .before .args .c) (now (c .before .before .before .before .before .before .before .before .before .args .table)) (now (c .before .before .before .before .before .before .before .before .before .args .raw)))
 size c =
     let a = c .before .before .before .before .before .before .before .before .before .args in
-    rw (parts c, length-append (filtered (a .c) (a .e) (now (a .table))) (created (now (a .raw))), ← (c .before .before .before .before .filter-counted .ensures .size)) (c .add-creation .ensures .0)
+    rw (parts c, length-append (filtered (scope (a .c) (a .e)) (now (a .table))) (created (now (a .raw))), ← (c .before .before .before .before .filter-counted .ensures .size)) (c .add-creation .ensures .0)
 
 returns : tie.Need-returns
 returns c =

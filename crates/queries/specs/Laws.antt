@@ -1,0 +1,2 @@
+-- A query and the scope of an event.
+pub mod Queries

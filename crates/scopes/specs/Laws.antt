@@ -1,0 +1,2 @@
+-- The queries in code ask what the definitions ask.
+pub mod Queries
