@@ -74,8 +74,11 @@ enum {
 /*
  * The kinds of the other events. Types, addresses, EPTPs and descriptor halves
  * have 8 bytes, VPID and PCID 2, CPL and flags 1. The low half of INVVPID's
- * descriptor is the VPID, its high half the address; the low half of INVEPT's
- * descriptor is the EPTP, its high half 0.
+ * descriptor is the VPID, that of INVPCID's the PCID, and the high half of both
+ * the address; the low half of INVEPT's descriptor is the EPTP, its high half 0.
+ *
+ * Kind 24 invalidates nothing, as MOV to CR3 with bit 63 set. Kind 27 is MOV to CR3
+ * with that bit clear, which drops the new PCID's mappings, except global ones.
  */
 enum {
     SKULDREFN_KIND_INVVPID = 16, /* 25: type 1, low half 9, high half 17 */
@@ -87,7 +90,9 @@ enum {
     SKULDREFN_KIND_VMXON = 22, /* 1 */
     SKULDREFN_KIND_VMXOFF = 23, /* 1 */
     SKULDREFN_KIND_NEW_PCID = 24, /* 4: PCID 1, CPL 3 */
-    SKULDREFN_KIND_RESET = 25 /* 1 */
+    SKULDREFN_KIND_RESET = 25, /* 1 */
+    SKULDREFN_KIND_INVPCID = 26, /* 25: type 1, low half 9, high half 17 */
+    SKULDREFN_KIND_MOV_TO_CR3 = 27 /* 3: PCID 1 */
 };
 
 /*
@@ -106,8 +111,9 @@ enum {
                                     bit 32, INVEPT without bit 20 */
     SKULDREFN_VM_EXIT = 6,       /* INVVPID, INVEPT, VM entry, VMXON or VMXOFF
                                     in a guest: it exits and does nothing */
-    SKULDREFN_GP = 7,            /* #GP(0): those five or INVLPG with CPL
-                                    above 0 */
+    SKULDREFN_GP = 7,            /* #GP(0): those five, INVLPG, INVPCID or MOV
+                                    to CR3 with CPL above 0; an invalid operand
+                                    of INVPCID */
     SKULDREFN_VMFAIL = 8,        /* VMfail: an invalid operand of INVVPID or
                                     INVEPT */
     SKULDREFN_OUT_OF_PLACE = 9,  /* VMXON in root; VM exit not in a guest; EPT

@@ -33,6 +33,8 @@ fn kind_of_event(e: Event) -> u64
         Event::Vmxoff => 23,
         Event::NewPcid(_) => 24,
         Event::Reset => 25,
+        Event::Invpcid(_) => 26,
+        Event::MovToCr3(_) => 27,
     }
 }
 
@@ -64,9 +66,12 @@ fn is_general_protection(c: Context, e: Event) -> bool
     ensures { λ r. ⌜ r ≡ general-protection c e ⌝ }
 {
     let kind = kind_of_event(e);
-    ((kind == 16)
-        | ((kind == 17) | ((kind == 18) | ((kind == 20) | ((kind == 22) | (kind == 23))))))
-        & (0 < c.cpl)
+    let privileged = (kind == 16)
+        | ((kind == 17)
+            | ((kind == 18)
+                | ((kind == 20)
+                    | ((kind == 22) | ((kind == 23) | ((kind == 26) | (kind == 27)))))));
+    privileged & (0 < c.cpl)
 }
 
 // The lowest number of 5 to 11 that applies, or 0: behind 5, 6 and 7 the event's own ground.

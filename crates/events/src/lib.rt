@@ -10,7 +10,7 @@ ghost use lib.ListN.{length};
 ghost use Rattle.model.specs.Layouts.{kind-of, body-of, length-of};
 ghost use Rattle.model.specs.Events.{operands, violation, entry, new-pcid, event, event-in-range, event-reading};
 
-// The operands of an INVVPID or INVEPT, whose bodies are alike.
+// The operands of an INVVPID, INVEPT or INVPCID, whose bodies are alike.
 fn read_operands(e: &[u8]) -> Operands
     requires { ⌜ (body-of (kind-of (now e)) ≡ body-of 16) × (length (now e) ≡ 25) ⌝ }
     ensures { λ r. ⌜ r ≡ operands (now (e .entry)) ⌝ }
@@ -88,6 +88,8 @@ fn event_of(e: &[u8], kind: u64) -> Event
         22 => return Event::Vmxon,
         23 => return Event::Vmxoff,
         24 => return Event::NewPcid(read_new_pcid(e)),
+        26 => return Event::Invpcid(read_operands(e)),
+        27 => return Event::MovToCr3(numbers::number2(e, 1)),
         _ => return Event::Reset,
     }
 }
@@ -111,12 +113,14 @@ fn is_in_range(e: &[u8], x: Event) -> bool
         }
         Event::Exit(pcid) => pcid <= model::PCID_MAX,
         Event::NewPcid(n) => (n.pcid <= model::PCID_MAX) & (n.cpl <= 3),
+        Event::MovToCr3(pcid) => pcid <= model::PCID_MAX,
         Event::Invvpid(_) => true,
         Event::Invept(_) => true,
         Event::Invlpg(_) => true,
         Event::Vmxon => true,
         Event::Vmxoff => true,
         Event::Reset => true,
+        Event::Invpcid(_) => true,
     }
 }
 

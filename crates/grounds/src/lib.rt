@@ -1,4 +1,4 @@
-// The ground that is an event's own: 8 to 11, of its operands, its place, its fields or its tags.
+// The ground that is an event's own: 7 to 11, of its operands, its place, its fields or its tags.
 use model::Context;
 use model::Entry;
 use model::Ept;
@@ -11,7 +11,7 @@ ghost use mathlib.Core.Path.{_≡_};
 ghost use Prim.Native.Nat.{_/_, _^_};
 ghost use lib.Dec.{eqb};
 ghost use Rattle.model.specs.Context.{in-root};
-ghost use Rattle.model.specs.Answers.{good-eptp, invvpid-supported, bad-invvpid, invept-supported, bad-invept, ept-in-use, bad-entry, creatable, own-ground};
+ghost use Rattle.model.specs.Answers.{good-eptp, invvpid-supported, bad-invvpid, invept-supported, bad-invept, bad-invpcid, ept-in-use, bad-entry, creatable, own-ground};
 
 // Bits 63 to N of an EPTP are zero.
 fn is_within_width(eptp: u64, width: u64) -> bool
@@ -84,6 +84,15 @@ fn is_bad_invept(c: Context, o: Operands) -> bool
         | ((type_number == 1) & !is_good_eptp(c, o.low))
 }
 
+// The operands of an INVPCID are invalid.
+fn is_bad_invpcid(o: Operands) -> bool
+    ensures { λ r. ⌜ r ≡ bad-invpcid o ⌝ }
+{
+    let type_number = o.type_number;
+    let above_pcid = (o.low >> 12) % 4503599627370496;
+    (3 < type_number) | !(above_pcid == 0) | ((type_number == 0) & !addresses::is_canonical(o.high))
+}
+
 // The fields of a VM entry fail it.
 fn is_bad_entry(c: Context, n: Entry) -> bool
     ensures { λ r. ⌜ r ≡ bad-entry c n ⌝ }
@@ -139,7 +148,7 @@ fn number_if(applies: bool, number: u64) -> u64
 }
 
 // The number of the ground that is the event's own, where it applies here, or 0: 8 for INVVPID and
-// INVEPT, 9 for VMXON, VM exits and EPT violations, 10 for VM entries, 11 for creations.
+// INVEPT, 9 for VMXON, VM exits and EPT violations, 10 for VM entries, 11 for creations, 7 for INVPCID.
 pub fn own_ground(c: Context, e: Event) -> u64
     ensures { λ r. ⌜ r ≡ own-ground c e ⌝ }
 {
@@ -156,5 +165,7 @@ pub fn own_ground(c: Context, e: Event) -> u64
         Event::Vmxoff => 0,
         Event::NewPcid(_) => 0,
         Event::Reset => 0,
+        Event::Invpcid(o) => number_if(is_bad_invpcid(o), 7),
+        Event::MovToCr3(_) => 0,
     }
 }

@@ -14,7 +14,7 @@ const LENGTHS: u64 = 0x0015_1110_1611_1100;
 
 const LENGTHS_FROM_16: u64 = 0x0101_0310_1209_1919;
 
-const LENGTHS_FROM_24: u64 = 0x0000_0000_0000_0104;
+const LENGTHS_FROM_24: u64 = 0x0000_0000_0319_0104;
 
 // Where the span of a mapping's record stands, in the same way.
 const SPANS: u64 = 0x0005_0605_0606_0600;

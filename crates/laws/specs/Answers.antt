@@ -9,11 +9,11 @@ use lib.ListN.{length}
 use borrow.Author.Tests.{ltb-true, ltb-false, le-ltb, eqb-true, eqb-false, not-true, not-false, eq-eqb}
 use Rattle.model.specs.declared.Context.{Context}
 use Rattle.model.specs.declared.Event.{Event}
-use Rattle.model.specs.declared.Event.the-variants.{Creation, Invvpid, Invept, Invlpg, EptViolation, Entry, Exit, Vmxon, Vmxoff, NewPcid, Reset}
+use Rattle.model.specs.declared.Event.the-variants.{Creation, Invvpid, Invept, Invlpg, EptViolation, Entry, Exit, Vmxon, Vmxoff, NewPcid, Reset, Invpcid, MovToCr3}
 use Rattle.model.specs.Context.{in-range, in-root, in-guest, current-ept}
 use Rattle.model.specs.Tables.{limit}
 use Rattle.model.specs.Events.{event}
-use Rattle.model.specs.Answers.{first, bad-invvpid, bad-invept, invalid-opcode, exits, general-protection, bad-entry, ept-in-use, creatable, own-ground, created, no-room, valid-table, valid-here, table-grounds, event-grounds, event-answer, grounds, answer}
+use Rattle.model.specs.Answers.{first, bad-invvpid, bad-invept, bad-invpcid, invalid-opcode, exits, general-protection, bad-entry, ept-in-use, creatable, own-ground, created, no-room, valid-table, valid-here, table-grounds, event-grounds, event-answer, grounds, answer}
 use Rattle.laws.specs.Lists.{Every, none, more, every-head, every-tail, every-append-front, every-append-back}
 
 -- every ground has a number above 0, so that no answer 0 stands for one
@@ -217,10 +217,10 @@ module _ (c : Context) (t e : List ℕ) (room : ℕ) where
       answer-of-room k =
           past-valid ∙ first-append-none (event-grounds c (event e)) ((12, no-room room t e) ∷ []) refl k
 
--- an event's own ground is none, or one of four numbers
-own-ground-cases : (P : ℕ → Type 0) → P 0 → P 8 → P 9 → P 10 → P 11 → (c : Context) (e : Event) → P (own-ground c e)
+-- an event's own ground is none, or one of five numbers
+own-ground-cases : (P : ℕ → Type 0) → P 0 → P 7 → P 8 → P 9 → P 10 → P 11 → (c : Context) (e : Event) → P (own-ground c e)
 unfolding own-ground
-own-ground-cases P p0 p8 p9 p10 p11 c = of-event
+own-ground-cases P p0 p7 p8 p9 p10 p11 c = of-event
   where
     given : (b : Bool) {n : ℕ} → P n → P (cond b n 0)
     given true p = p
@@ -238,13 +238,15 @@ own-ground-cases P p0 p8 p9 p10 p11 c = of-event
     of-event Vmxoff = p0
     of-event (NewPcid n) = p0
     of-event Reset = p0
+    of-event (Invpcid o) = given (bad-invpcid o) p7
+    of-event (MovToCr3 pcid) = p0
 
 -- the answer of an event behind 5, 6 and 7 is its own ground
 pub event-answer-own : (c : Context) (e : Event)
     → event-answer c e ≡ cond (invalid-opcode c e) 5 (cond (exits c e) 6 (cond (general-protection c e) 7 (own-ground c e)))
 unfolding event-answer event-grounds first
 event-answer-own c e =
-    let own = own-ground-cases (λ n. first ((8, eqb n 8) ∷ (9, eqb n 9) ∷ (10, eqb n 10) ∷ (11, eqb n 11) ∷ []) ≡ n) refl refl refl refl refl c e in
+    let own = own-ground-cases (λ n. first ((7, eqb n 7) ∷ (8, eqb n 8) ∷ (9, eqb n 9) ∷ (10, eqb n 10) ∷ (11, eqb n 11) ∷ []) ≡ n) refl refl refl refl refl refl c e in
     ap (λ (n : ℕ). cond (invalid-opcode c e) 5 (cond (exits c e) 6 (cond (general-protection c e) 7 n))) own
 
 -- an event that is answered 0 has no ground of its own

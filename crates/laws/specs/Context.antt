@@ -13,7 +13,7 @@ use Rattle.model.specs.declared.Place.the-variants.{Outside, Root}
 use Rattle.model.specs.declared.Ept.the-variants.{Off, On}
 use Rattle.model.specs.declared.Entry
 use Rattle.model.specs.declared.Event.{Event}
-use Rattle.model.specs.declared.Event.the-variants.{Creation, Invvpid, Invept, Invlpg, EptViolation, Entry, Exit, Vmxon, Vmxoff, NewPcid, Reset}
+use Rattle.model.specs.declared.Event.the-variants.{Creation, Invvpid, Invept, Invlpg, EptViolation, Entry, Exit, Vmxon, Vmxoff, NewPcid, Reset, Invpcid, MovToCr3}
 use Rattle.model.specs.Context.{in-range, pcid-in-range, cpl-in-range, ept-in-range, place-in-range, after-reset}
 use Rattle.model.specs.Layouts.{Field, field, kind-of, mapping-kind, body-of}
 use Rattle.model.specs.Mappings.{mapping}
@@ -72,33 +72,51 @@ VpidInRange Vmxon = Unit {0}
 VpidInRange Vmxoff = Unit {0}
 VpidInRange (NewPcid n) = Unit {0}
 VpidInRange Reset = Unit {0}
+VpidInRange (Invpcid o) = Unit {0}
+VpidInRange (MovToCr3 pcid) = Unit {0}
 
 pub vpid-of-event : (e : List ℕ) → Bytes e → VpidInRange (event e)
 unfolding event
 vpid-of-event e bytes =
     go (mapping-kind (kind-of e)) (eqb (kind-of e) 16) (eqb (kind-of e) 17) (eqb (kind-of e) 18) (eqb (kind-of e) 19)
-    (eqb (kind-of e) 20) (eqb (kind-of e) 21) (eqb (kind-of e) 22) (eqb (kind-of e) 23) (eqb (kind-of e) 24) refl
+    (eqb (kind-of e) 20) refl
   where
-    go : (a b c d f g h i j k : Bool) → eqb (kind-of e) 20 ≡ g
+    -- no event behind a VM entry has a VPID
+    behind : (h i j k l m : Bool)
+        → VpidInRange
+        (cond h (Exit (field Field.pcid e))
+        (cond i Vmxon
+        (cond j Vmxoff (cond k (NewPcid (new-pcid e)) (cond l (Invpcid (operands e)) (cond m (MovToCr3 (field Field.pcid e)) Reset))))))
+    behind true i j k l m = tt
+    behind false true j k l m = tt
+    behind false false true k l m = tt
+    behind false false false true l m = tt
+    behind false false false false true m = tt
+    behind false false false false false true = tt
+    behind false false false false false false = tt
+
+    rest : Event
+    rest =
+        cond (eqb (kind-of e) 21) (Exit (field Field.pcid e))
+        (cond (eqb (kind-of e) 22) Vmxon
+        (cond (eqb (kind-of e) 23) Vmxoff
+        (cond (eqb (kind-of e) 24) (NewPcid (new-pcid e))
+        (cond (eqb (kind-of e) 26) (Invpcid (operands e)) (cond (eqb (kind-of e) 27) (MovToCr3 (field Field.pcid e)) Reset)))))
+
+    go : (a b c d f g : Bool) → eqb (kind-of e) 20 ≡ g
         → VpidInRange
         (cond a (Creation (mapping e))
         (cond b (Invvpid (operands e))
         (cond c (Invept (operands e))
-        (cond d (Invlpg (field Field.linear-address e))
-        (cond f (EptViolation (violation e))
-        (cond g (Entry (entry e))
-        (cond h (Exit (field Field.pcid e)) (cond i Vmxon (cond j Vmxoff (cond k (NewPcid (new-pcid e)) Reset))))))))))
-    go true b c d f g h i j k is = tt
-    go false true c d f g h i j k is = tt
-    go false false true d f g h i j k is = tt
-    go false false false true f g h i j k is = tt
-    go false false false false true g h i j k is = tt
-    go false false false false false true h i j k is = vpid-of-entry e bytes (eqb-true (kind-of e) 20 is)
-    go false false false false false false true i j k is = tt
-    go false false false false false false false true j k is = tt
-    go false false false false false false false false true k is = tt
-    go false false false false false false false false false true is = tt
-    go false false false false false false false false false false is = tt
+        (cond d (Invlpg (field Field.linear-address e)) (cond f (EptViolation (violation e)) (cond g (Entry (entry e)) rest))))))
+    go true b c d f g is = tt
+    go false true c d f g is = tt
+    go false false true d f g is = tt
+    go false false false true f g is = tt
+    go false false false false true g is = tt
+    go false false false false false true is = vpid-of-entry e bytes (eqb-true (kind-of e) 20 is)
+    go false false false false false false is =
+        behind (eqb (kind-of e) 21) (eqb (kind-of e) 22) (eqb (kind-of e) 23) (eqb (kind-of e) 24) (eqb (kind-of e) 26) (eqb (kind-of e) 27)
 
 entered-in-range : (n : Entry.Entry) → n .vpid ≤ 65535 → place-in-range (entered n) ≡ true
 unfolding entered
@@ -133,3 +151,6 @@ next-context-in-range c (NewPcid n) v fits h =
     let both = and-eq-true-iff (pcid-in-range (n .pcid)) (cpl-in-range (n .cpl)) .0 fits in
     in-range-moved c (n .pcid) (n .cpl) (c .place) h (both .0) (both .1) (in-range-parts c h .place)
 next-context-in-range c Reset v fits h = in-range-moved c 0 0 Outside h refl refl refl
+next-context-in-range c (Invpcid o) v fits h = h
+next-context-in-range c (MovToCr3 pcid) v fits h =
+    let parts = in-range-parts c h in in-range-moved c pcid (c .cpl) (c .place) h fits (parts .cpl) (parts .place)

@@ -123,7 +123,9 @@ event-creation-kind e m h =
     (neither (eqb (kind-of e) 21) _ _ (λ h. apart (cc))
     (neither (eqb (kind-of e) 22) _ _ (λ h. apart (cc))
     (neither (eqb (kind-of e) 23) _ _ (λ h. apart (cc))
-    (neither (eqb (kind-of e) 24) _ _ (λ h. apart (cc)) (λ h. apart (cc)))))))))))
+    (neither (eqb (kind-of e) 24) _ _ (λ h. apart (cc))
+    (neither (eqb (kind-of e) 26) _ _ (λ h. apart (cc))
+    (neither (eqb (kind-of e) 27) _ _ (λ h. apart (cc)) (λ h. apart (cc)))))))))))))
     h
   where
     apart : _≡_ {A = ℕ} 0 1 → ⊥

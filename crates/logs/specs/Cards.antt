@@ -21,9 +21,9 @@ record Rows : Type 0 where
   reset : after-reset program ≡ program
   limit : log-limit ≡ 65536
   -- the length that a kind tells, also of a cut record; 0 of an unknown kind and of nothing
-  told : map told-length (exit ∷ cut-exit ∷ (exit ++ exit) ∷ (0 ∷ exit) ∷ (26 ∷ exit) ∷ [] ∷ []) ≡ 3 ∷ 3 ∷ 3 ∷ 0 ∷ 0 ∷ 0 ∷ []
+  told : map told-length (exit ∷ cut-exit ∷ (exit ++ exit) ∷ (0 ∷ exit) ∷ (28 ∷ exit) ∷ [] ∷ []) ≡ 3 ∷ 3 ∷ 3 ∷ 0 ∷ 0 ∷ 0 ∷ []
   -- a whole event takes its own bytes, a cut one and an unknown kind all that is left
-  taken : map event-size (exit ∷ cut-exit ∷ (exit ++ exit) ∷ (0 ∷ exit) ∷ (26 ∷ exit) ∷ [] ∷ []) ≡ 3 ∷ 2 ∷ 3 ∷ 4 ∷ 4 ∷ 0 ∷ []
+  taken : map event-size (exit ∷ cut-exit ∷ (exit ++ exit) ∷ (0 ∷ exit) ∷ (28 ∷ exit) ∷ [] ∷ []) ≡ 3 ∷ 2 ∷ 3 ∷ 4 ∷ 4 ∷ 0 ∷ []
   events : events-of (exit ++ (22 ∷ []) ++ exit ++ cut-exit) ≡ exit ∷ (22 ∷ []) ∷ exit ∷ cut-exit ∷ []
   last : events-of (exit ++ (0 ∷ exit)) ≡ exit ∷ (0 ∷ exit) ∷ []
   -- at most so many events from a position on

@@ -9,7 +9,7 @@ use Rattle.model.specs.declared.Ept.{Ept}
 use Rattle.model.specs.declared.Ept.the-variants.{Off, On}
 use Rattle.model.specs.declared.Mapping.{Mapping}
 use Rattle.model.specs.declared.Event.{Event}
-use Rattle.model.specs.declared.Event.the-variants.{Creation, Invvpid, Invept, Invlpg, EptViolation, Entry, Exit, Vmxon, Vmxoff, NewPcid, Reset}
+use Rattle.model.specs.declared.Event.the-variants.{Creation, Invvpid, Invept, Invlpg, EptViolation, Entry, Exit, Vmxon, Vmxoff, NewPcid, Reset, Invpcid, MovToCr3}
 use Rattle.model.specs.declared.Operands.{Operands}
 use Rattle.model.specs.declared.Entry
 use Rattle.model.specs.Bits.{bits, bit}
@@ -44,6 +44,8 @@ kind-number Vmxon = 22
 kind-number Vmxoff = 23
 kind-number (NewPcid n) = 24
 kind-number Reset = 25
+kind-number (Invpcid o) = 26
+kind-number (MovToCr3 pcid) = 27
 
 -- "An EPTP is good if bits 2:0 are 0 with capability bit 8 or 6 with bit 14; bits 5:3 are 3 with bit
 -- 6; its bit 6 is clear or capability bit 21 set; bits 11:7 and 63:N are zero." An EPTP has 64 bits,
@@ -97,9 +99,17 @@ invalid-opcode c e =
 unfoldable pub exits : Context → Event → Bool
 exits c e = among (kind-number e) (16 ∷ 17 ∷ 20 ∷ 22 ∷ 23 ∷ []) && in-guest (c .place)
 
--- 7, "#GP(0): kinds 16, 17, 18, 20, 22, 23 with CPL above 0"
+-- 7, "#GP(0): kinds 16, 17, 18, 20, 22, 23 with CPL above 0"; "as is CPL above 0 for both kinds" of Ask 5
 unfoldable pub general-protection : Context → Event → Bool
-general-protection c e = among (kind-number e) (16 ∷ 17 ∷ 18 ∷ 20 ∷ 22 ∷ 23 ∷ []) && ltb 0 (c .cpl)
+general-protection c e = among (kind-number e) (16 ∷ 17 ∷ 18 ∷ 20 ∷ 22 ∷ 23 ∷ 26 ∷ 27 ∷ []) && ltb 0 (c .cpl)
+
+-- Ask 5: "A type above 3, reserved bits set, or type 0 with a non-canonical address is answer 7". The reserved bits
+-- of the descriptor are 63:12, for every type.
+unfoldable pub bad-invpcid : Operands → Bool
+bad-invpcid o =
+    ltb 3 (o .«type_number»)
+    || not (eqb (bits 63 12 (o .low)) 0)
+    || (eqb (o .«type_number») 0 && not (canonical (o .high)))
 
 -- EPT is in use
 abbrev pub ept-in-use : Ept → Bool
@@ -125,7 +135,7 @@ creatable c m =
     && eqb (m .vpid) (current-vpid (c .place))
     && eqb (m .pcid) (c .pcid))
 
--- the number of the ground that is an event's own, or 0; no event has two. 8, "VMfail, invalid operand";
+-- the number of the ground that is an event's own, or 0; no event has two. 7, of INVPCID; 8, "VMfail, invalid operand";
 -- 9, "VMXON in root; VM exit not in a guest; EPT violation not in a guest with EPT"; 10, of a VM entry;
 -- 11, "a mapping that cannot be created here"
 unfoldable pub own-ground : Context → Event → ℕ
@@ -140,6 +150,8 @@ own-ground c Vmxon = cond (in-root (c .place)) 9 0
 own-ground c Vmxoff = 0
 own-ground c (NewPcid n) = 0
 own-ground c Reset = 0
+own-ground c (Invpcid o) = cond (bad-invpcid o) 7 0
+own-ground c (MovToCr3 pcid) = 0
 
 -- the bytes that an event adds to the table: a creation's own
 unfoldable pub created : List ℕ → List ℕ
@@ -167,6 +179,7 @@ event-grounds c e =
     (5, invalid-opcode c e)
     ∷ (6, exits c e)
     ∷ (7, general-protection c e)
+    ∷ (7, eqb (own-ground c e) 7)
     ∷ (8, eqb (own-ground c e) 8)
     ∷ (9, eqb (own-ground c e) 9)
     ∷ (10, eqb (own-ground c e) 10)

@@ -21,8 +21,8 @@ use Rattle.model.specs.Layouts.{kind-of, mapping-kind, event-kind, body-
 use Rattle.model.specs.Mappings.{mapping, structure-cache, global-marked, fields-in-range, starts-record, record-length, covers}
 use Rattle.model.specs.Tables.{joined, cut, records-within, records, whole, only, count}
 use Rattle.model.specs.Events.{canonical, operands, violation, entry, new-pcid, event, event-in-range, valid-event}
-use Rattle.model.specs.Scopes.{invvpid-tests, invept-tests, invlpg-tests, guest-physical-violation-tests, combined-violation-tests, violation-tests, transition-tests, has-scope, scope, entered, next-context}
-use Rattle.model.specs.Answers.{first, good-eptp, invvpid-supported, bad-invvpid, invept-supported, bad-invept, invalid-opcode, exits, general-protection, bad-entry, creatable, own-ground, created, no-room, table-grounds, event-grounds, grounds, answer}
+use Rattle.model.specs.Scopes.{invvpid-tests, invept-tests, invlpg-tests, guest-physical-violation-tests, combined-violation-tests, violation-tests, transition-tests, invpcid-tests, mov-to-cr3-tests, has-scope, scope, entered, next-context}
+use Rattle.model.specs.Answers.{first, good-eptp, invvpid-supported, bad-invvpid, invept-supported, bad-invept, bad-invpcid, invalid-opcode, exits, general-protection, bad-entry, creatable, own-ground, created, no-room, table-grounds, event-grounds, grounds, answer}
 use Rattle.model.specs.Steps.{new-table, dropped-count, accepted-step, refused-step, stepped, written}
 use Rattle.model.specs.Lookups.{translates-linear, usable, usable-records, lookup-answer, lookup, start-of, lookup-start}
 use Rattle.model.specs.Reasons.{first-failed, reason, one-record, explained-answer, explanation, explanation-number, explanation-answer}
@@ -188,6 +188,12 @@ vm-exit pcid = 21 ∷ bytes 2 pcid
 new-pcid-cpl : ℕ → ℕ → List ℕ
 new-pcid-cpl pcid cpl = 24 ∷ bytes 2 pcid ++ (cpl ∷ [])
 
+invpcid : ℕ → ℕ → ℕ → List ℕ
+invpcid type low high = 26 ∷ bytes 8 type ++ bytes 8 low ++ bytes 8 high
+
+mov-to-cr3 : ℕ → List ℕ
+mov-to-cr3 pcid = 27 ∷ bytes 2 pcid
+
 -- a step that is accepted and leaves the context, one that changes it, and one that is refused
 accepts : Context → List ℕ → List ℕ → ℕ → List ℕ → Card
 accepts c t e n new = record { context = c; table = t; event = e; answer = 0; dropped = n; after = c; new = new }
@@ -263,6 +269,7 @@ answered =
     ∷ accepts root (linear 5 1 0 0 (2 ^ 36 - 1)) (invvpid 1 5 0) 1 []
     -- 4: no byte, an unknown kind, a byte too few or too many, two events, each field past its bound
     ∷ refuses root A [] 4
+    ∷ refuses root A (28 ∷ []) 4
     ∷ refuses root A (26 ∷ []) 4
     ∷ refuses root A (22 ∷ 22 ∷ []) 4
     ∷ refuses root A (16 ∷ bytes 23 0) 4
@@ -486,6 +493,52 @@ bounded =
     ∷ moves (guest 0) (linear 1 0 0 0 0 ++ guest-physical-structure 1 0 ++ combined 0 1 1 0 0) (vm-exit 0) 1 (linear 1 0 0 0 0 ++ guest-physical-structure 1 0) root
     ∷ []
 
+-- INVPCID and MOV to CR3 (document 02, Ask 5), in a guest with VPID 5 and PCID 1 unless said
+by-pcid : List Card
+by-pcid =
+    -- 7: the type, of 64 bits; the reserved bits, with every type; the address with type 0 alone; the CPL
+    refuses (guest 5) A (invpcid 4 1 0) 7
+    ∷ refuses (guest 5) A (invpcid (2 ^ 32 + 1) 1 0) 7
+    ∷ refuses (guest 5) A (invpcid (2 ^ 63) 1 0) 7
+    ∷ refuses (guest 5) A (invpcid 0 (2 ^ 12 + 1) 0) 7
+    ∷ refuses (guest 5) A (invpcid 1 (2 ^ 12) 0) 7
+    ∷ refuses (guest 5) A (invpcid 2 (2 ^ 12) 0) 7
+    ∷ refuses (guest 5) A (invpcid 3 (2 ^ 63 + 1) 0) 7
+    ∷ refuses (guest 5) A (invpcid 0 1 (2 ^ 47)) 7
+    ∷ accepts (guest 5) A (invpcid 1 1 (2 ^ 47)) 1 []
+    ∷ refuses (at program 52 1 1 (Guest (record { vpid = 5; ept = Off }))) A (invpcid 1 1 0) 7
+    ∷ refuses (at program 52 1 3 Outside) A (mov-to-cr3 1) 7
+    -- 4: kind 27's PCID; the last one is valid
+    ∷ refuses (at program 52 1 3 Outside) A (mov-to-cr3 4096) 4
+    ∷ moves (guest 5) A (mov-to-cr3 4095) 0 A (at program 52 4095 0 (Guest (record { vpid = 5; ept = Off })))
+    -- neither 5 nor 6, whatever the capability and the place are
+    ∷ accepts (at 0 52 1 0 Outside) (linear 0 1 0 0 0) (invpcid 1 1 0) 1 []
+    ∷ accepts (at 0 52 1 0 Root) (linear 0 1 0 0 0) (invpcid 2 0 0) 1 []
+    ∷ moves (at 0 40 9 0 Root) (linear 0 1 0 0 0) (mov-to-cr3 1) 1 [] (at 0 40 1 0 Root)
+    -- type 0: that PCID, covering the address, not global; a structure cache is never global
+    ∷ accepts (guest 5) A (invpcid 0 1 0x12345678) 1 []
+    ∷ accepts (guest 5) A (invpcid 0 1 0x12346000) 0 A
+    ∷ accepts (guest 5) A (invpcid 0 2 0x12345678) 0 A
+    ∷ accepts (guest 6) A (invpcid 0 1 0x12345678) 0 A
+    ∷ accepts (guest 5) (linear 5 1 1 0 0x12345) (invpcid 0 1 0x12345678) 0 (linear 5 1 1 0 0x12345)
+    ∷ accepts (guest 5) (linear-structure 5 1 1 0x12200 ++ linear-structure 5 1 1 0x12400) (invpcid 0 1 0x12345678) 1 (linear-structure 5 1 1 0x12400)
+    -- type 1: that PCID, not global, any EP4TA and page; the descriptor's PCID and not the current one
+    ∷ accepts (guest 5) (combined 5 1 0 0 7 ++ combined-structure 5 1 1 0) (invpcid 1 1 0) 2 []
+    ∷ accepts (guest 5) (linear 5 1 1 0 0) (invpcid 1 1 0) 0 (linear 5 1 1 0 0)
+    ∷ accepts (guest 5) (A ++ linear 5 4095 0 0 0) (invpcid 1 4095 0) 1 A
+    ∷ accepts (guest 5) (linear 5 0x801 0 0 0) (invpcid 1 1 0) 0 (linear 5 0x801 0 0 0)
+    -- type 2: all, global too, of the current VPID alone; kinds 2 and 5 stay
+    ∷ accepts (ept-guest 5) (linear 5 9 1 0 0 ++ combined-structure 5 2 1 0) (invpcid 2 0 0) 2 []
+    ∷ accepts (ept-guest 5) (G ++ guest-physical-structure 1 0 ++ linear 6 1 0 0 0) (invpcid 2 0 0) 0 (G ++ guest-physical-structure 1 0 ++ linear 6 1 0 0 0)
+    -- type 3: all but global; structure caches go
+    ∷ accepts (ept-guest 5) (linear 5 9 0 0 0 ++ combined-structure 5 2 1 0) (invpcid 3 0 0) 2 []
+    ∷ accepts (ept-guest 5) (combined 5 9 1 0 0 ++ linear-structure 5 9 1 0) (invpcid 3 0 0) 1 (combined 5 9 1 0 0)
+    -- kind 27: the new PCID's records and not the old one's, globals spared; then it is current
+    ∷ moves (guest 5) (A ++ linear 5 2 0 0 0 ++ linear 5 2 1 0 0) (mov-to-cr3 2) 1 (A ++ linear 5 2 1 0 0) (at program 52 2 0 (Guest (record { vpid = 5; ept = Off })))
+    ∷ moves (ept-guest 5) (combined-structure 5 2 3 0 ++ linear 6 2 0 0 0) (mov-to-cr3 2) 1 (linear 6 2 0 0 0) (at program 52 2 0 (Guest (record { vpid = 5; ept = On 0x1234567 })))
+    ∷ moves (guest 5) A (mov-to-cr3 1) 1 [] (guest 5)
+    ∷ []
+
 -- 2 and 12 at the limit and one past it: of a table of so many bytes, the answer to a reset, and whether there
 -- is room for A behind it in a new buffer of so many
 limited : Bool
@@ -502,8 +555,8 @@ limited =
 -- the lengths of the kinds, with the kind byte
 lengths : Bool
 lengths =
-    same (map length-of (1 ∷ 2 ∷ 3 ∷ 4 ∷ 5 ∷ 6 ∷ 16 ∷ 17 ∷ 18 ∷ 19 ∷ 20 ∷ 21 ∷ 22 ∷ 23 ∷ 24 ∷ 25 ∷ []))
-    (17 ∷ 17 ∷ 22 ∷ 16 ∷ 17 ∷ 21 ∷ 25 ∷ 25 ∷ 9 ∷ 18 ∷ 16 ∷ 3 ∷ 1 ∷ 1 ∷ 4 ∷ 1 ∷ [])
+    same (map length-of (1 ∷ 2 ∷ 3 ∷ 4 ∷ 5 ∷ 6 ∷ 16 ∷ 17 ∷ 18 ∷ 19 ∷ 20 ∷ 21 ∷ 22 ∷ 23 ∷ 24 ∷ 25 ∷ 26 ∷ 27 ∷ []))
+    (17 ∷ 17 ∷ 22 ∷ 16 ∷ 17 ∷ 21 ∷ 25 ∷ 25 ∷ 9 ∷ 18 ∷ 16 ∷ 3 ∷ 1 ∷ 1 ∷ 4 ∷ 1 ∷ 25 ∷ 3 ∷ [])
 
 -- lookups: both kinds of record count, in the table's order
 looks : List Look
@@ -594,6 +647,23 @@ reasons =
     ∷ says (ept-guest 5) (combined 5 1 0 0 0x10) (ept-violation 0x10000 1 0) 8
     -- 9, spared as global
     ∷ says root (linear 5 1 1 0 0) (invvpid 3 5 0) 9
+    -- INVPCID and MOV to CR3 (Ask 5): of a global of another PCID the PCID is named, but by type 3; the page goes
+    -- before the global mark
+    ∷ record { context = guest 5; bytes = A; event = invpcid 4 1 0; number = 1; answer = 7 }
+    ∷ record { context = guest 5; bytes = A; event = mov-to-cr3 4096; number = 1; answer = 4 }
+    ∷ says (guest 6) G (invpcid 2 0 0) 4
+    ∷ says (guest 5) G (mov-to-cr3 1) 4
+    ∷ says (guest 6) (linear 5 2 1 0 0) (invpcid 3 0 0) 5
+    ∷ says (guest 6) (linear 5 2 1 0 0) (mov-to-cr3 1) 5
+    ∷ says (guest 5) (linear 5 2 1 0 0x12345) (invpcid 0 1 0) 6
+    ∷ says (guest 5) (linear 5 2 1 0 0) (invpcid 1 1 0) 6
+    ∷ says (guest 5) A (mov-to-cr3 2) 6
+    ∷ says (guest 5) (linear 5 1 1 0 0x12345) (invpcid 0 1 0) 8
+    ∷ says (guest 5) (linear 5 1 1 0 0x12345) (invpcid 0 1 0x12345000) 9
+    ∷ says (guest 5) (linear 5 2 1 0 0) (invpcid 3 1 0) 9
+    ∷ says (guest 5) (linear 5 2 1 0 0) (mov-to-cr3 2) 9
+    ∷ says (guest 5) (linear 5 2 1 0 0) (invpcid 2 1 0) 10
+    ∷ says (guest 5) (linear-structure 5 2 1 0) (mov-to-cr3 2) 10
     -- 10, in scope; INVLPG asks structure caches for no page (Ask 2)
     ∷ says root (linear 5 1 1 0 0) (invvpid 1 5 0) 10
     ∷ says (guest 5) (linear-structure 5 1 1 0x12400) (invlpg 0) 10
@@ -601,6 +671,6 @@ reasons =
     ∷ []
 
 -- Every row holds.
-cards-hold : (all holds (starred ++ answered ++ dropping ++ bounded) && limited && lengths && all shows looks && all tells reasons) ≡ true
-unfolding translations structures structures-of-0 bounded limited bytes same ept-numbers place-numbers numbers buffer holds shows all without-21 program at root outside guest ept-guest A G linear guest-physical combined linear-structure guest-physical-structure combined-structure invvpid invept invlpg ept-violation vm-entry vm-exit new-pcid-cpl accepts moves refuses finds misses starred answered lengths looks in-range after-reset kind-of mapping-kind event-kind body-of length-of field mapping fields-in-range starts-record record-length covers joined cut records-within records whole only count canonical operands violation entry new-pcid event event-in-range valid-event scope entered next-context first good-eptp invvpid-supported bad-invvpid invept-supported bad-invept invalid-opcode exits general-protection bad-entry creatable created no-room table-grounds event-grounds grounds answer new-table dropped-count stepped written translates-linear usable usable-records lookup-answer lookup start-of lookup-start accepted-step refused-step put Rattle.model.specs.Mappings.linear Rattle.model.specs.Mappings.guest-physical Rattle.model.specs.Mappings.combined structure-cache global-marked tells says dropping reasons invvpid-tests invept-tests invlpg-tests guest-physical-violation-tests combined-violation-tests violation-tests transition-tests has-scope first-failed reason one-record explained-answer explanation own-ground
+cards-hold : (all holds (starred ++ answered ++ dropping ++ bounded ++ by-pcid) && limited && lengths && all shows looks && all tells reasons) ≡ true
+unfolding invpcid mov-to-cr3 by-pcid bad-invpcid invpcid-tests mov-to-cr3-tests translations structures structures-of-0 bounded limited bytes same ept-numbers place-numbers numbers buffer holds shows all without-21 program at root outside guest ept-guest A G linear guest-physical combined linear-structure guest-physical-structure combined-structure invvpid invept invlpg ept-violation vm-entry vm-exit new-pcid-cpl accepts moves refuses finds misses starred answered lengths looks in-range after-reset kind-of mapping-kind event-kind body-of length-of field mapping fields-in-range starts-record record-length covers joined cut records-within records whole only count canonical operands violation entry new-pcid event event-in-range valid-event scope entered next-context first good-eptp invvpid-supported bad-invvpid invept-supported bad-invept invalid-opcode exits general-protection bad-entry creatable created no-room table-grounds event-grounds grounds answer new-table dropped-count stepped written translates-linear usable usable-records lookup-answer lookup start-of lookup-start accepted-step refused-step put Rattle.model.specs.Mappings.linear Rattle.model.specs.Mappings.guest-physical Rattle.model.specs.Mappings.combined structure-cache global-marked tells says dropping reasons invvpid-tests invept-tests invlpg-tests guest-physical-violation-tests combined-violation-tests violation-tests transition-tests has-scope first-failed reason one-record explained-answer explanation own-ground
 cards-hold = refl

@@ -5,7 +5,7 @@ use mathlib.Core.List.{List}
 use lib.Dec.{eqb, leb, ltb}
 use lib.ListN.{length}
 use Rattle.model.specs.declared.Event.{Event}
-use Rattle.model.specs.declared.Event.the-variants.{Creation, Invvpid, Invept, Invlpg, EptViolation, Entry, Exit, Vmxon, Vmxoff, NewPcid, Reset}
+use Rattle.model.specs.declared.Event.the-variants.{Creation, Invvpid, Invept, Invlpg, EptViolation, Entry, Exit, Vmxon, Vmxoff, NewPcid, Reset, Invpcid, MovToCr3}
 use Rattle.model.specs.declared.EventReading.{EventReading}
 use Rattle.model.specs.declared.EventReading.the-variants.{Read, Invalid}
 use Rattle.model.specs.declared.Operands.{Operands}
@@ -73,11 +73,13 @@ event e =
     (cond (eqb (kind-of e) 21) (Exit (field Field.pcid e))
     (cond (eqb (kind-of e) 22) Vmxon
     (cond (eqb (kind-of e) 23) Vmxoff
-    (cond (eqb (kind-of e) 24) (NewPcid (new-pcid e)) Reset)))))))))
+    (cond (eqb (kind-of e) 24) (NewPcid (new-pcid e))
+    (cond (eqb (kind-of e) 26) (Invpcid (operands e))
+    (cond (eqb (kind-of e) 27) (MovToCr3 (field Field.pcid e)) Reset)))))))))))
 
 -- the fields of an event are in their ranges: flags, PCID and CPL; "in kind 19 the guest-physical
 -- address is below 2^48, and with flag 1 the linear address is canonical; with flag 0 it is not
--- looked at"
+-- looked at"; "A PCID above 4,095 in kind 27 is answer 4." (Ask 5)
 unfoldable pub event-in-range : Event → Bool
 event-in-range (Creation m) = fields-in-range m
 event-in-range (Invvpid o) = true
@@ -91,6 +93,8 @@ event-in-range Vmxon = true
 event-in-range Vmxoff = true
 event-in-range (NewPcid n) = pcid-in-range (n .pcid) && cpl-in-range (n .cpl)
 event-in-range Reset = true
+event-in-range (Invpcid o) = true
+event-in-range (MovToCr3 pcid) = pcid-in-range pcid
 
 -- "exactly one valid record"
 unfoldable pub valid-event : List ℕ → Bool

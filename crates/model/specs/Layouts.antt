@@ -73,7 +73,8 @@ mapping-kinds =
     ∷ structure 6 combined ((vpid, 2) ∷ (pcid, 2) ∷ (span, 1) ∷ (page, 5) ∷ (frame, 5) ∷ (ep4ta, 5) ∷ [])
     ∷ []
 
--- "kind | event | body": the events besides the creations
+-- "kind | event | body": the events besides the creations. Kinds 26, INVPCID, and 27, MOV to CR3 without bit 63, are
+-- document 02's, Ask 5.
 abbrev pub other-event-kinds : List (ℕ × Body)
 other-event-kinds =
     (16, (type-number, 8) ∷ (low, 8) ∷ (high, 8) ∷ [])
@@ -86,6 +87,8 @@ other-event-kinds =
     ∷ (23, [])
     ∷ (24, (pcid, 2) ∷ (cpl, 1) ∷ [])
     ∷ (25, [])
+    ∷ (26, (type-number, 8) ∷ (low, 8) ∷ (high, 8) ∷ [])
+    ∷ (27, (pcid, 2) ∷ [])
     ∷ []
 
 -- the bodies of the mappings, by kind

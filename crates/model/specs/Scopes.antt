@@ -10,7 +10,7 @@ use Rattle.model.specs.declared.Ept.{Ept}
 use Rattle.model.specs.declared.Ept.the-variants.{Off, On}
 use Rattle.model.specs.declared.Mapping.{Mapping}
 use Rattle.model.specs.declared.Event.{Event}
-use Rattle.model.specs.declared.Event.the-variants.{Creation, Invvpid, Invept, Invlpg, EptViolation, Entry, Exit, Vmxon, Vmxoff, NewPcid, Reset}
+use Rattle.model.specs.declared.Event.the-variants.{Creation, Invvpid, Invept, Invlpg, EptViolation, Entry, Exit, Vmxon, Vmxoff, NewPcid, Reset, Invpcid, MovToCr3}
 use Rattle.model.specs.declared.Operands.{Operands}
 use Rattle.model.specs.declared.Violation.{Violation}
 use Rattle.model.specs.declared.Entry
@@ -39,6 +39,10 @@ current-pcid-or-global c m = eqb (m .pcid) (c .pcid) || global-translation m
 -- the INVVPID descriptor (002, Figure 31-2): VPID in bits 15:0, linear address in bits 127:64
 abbrev pub vpid-named : Operands → ℕ
 vpid-named o = bits 15 0 (o .low)
+
+-- the INVPCID descriptor (document 02, Ask 5): PCID in bits 11:0, linear address in bits 127:64
+abbrev pub pcid-named : Operands → ℕ
+pcid-named o = bits 11 0 (o .low)
 
 -- The tests that an event puts to a mapping, in the order of document 02's reasons (Ask 1). Each is true
 -- where the mapping passes it, and where the event does not put it.
@@ -135,6 +139,32 @@ unfoldable pub transition-tests : Mapping → Tests
 transition-tests m =
     record { kind = vpid-tagged m; vpid = eqb (m .vpid) 0; pcid = true; ep4ta = true; page = true; global = true }
 
+-- Document 02, Ask 5: "INVPCID type 0: that PCID, covering the address, not global; type 1: that PCID, not global;
+-- type 2: all, global too; type 3: all but global. All act on the current VPID, kinds 1, 3, 4, 6, any EP4TA;
+-- structure caches count as not global." A type above 3 is refused with 7.
+unfoldable pub invpcid-tests : Context → Operands → Mapping → Tests
+invpcid-tests c o m =
+    record {
+      kind = vpid-tagged m;
+      vpid = eqb (m .vpid) (current-vpid (c .place));
+      pcid = cond (leb (o .«type_number») 1) (eqb (m .pcid) (pcid-named o)) true;
+      ep4ta = true;
+      page = cond (eqb (o .«type_number») 0) (covers (m .span) (m .page) (page-of (o .high))) true;
+      global = cond (eqb (o .«type_number») 2) true (not (global-translation m));
+    }
+
+-- "Kind 27 does type 1's work for its PCID"
+unfoldable pub mov-to-cr3-tests : Context → ℕ → Mapping → Tests
+mov-to-cr3-tests c pcid m =
+    record {
+      kind = vpid-tagged m;
+      vpid = eqb (m .vpid) (current-vpid (c .place));
+      pcid = eqb (m .pcid) pcid;
+      ep4ta = true;
+      page = true;
+      global = not (global-translation m);
+    }
+
 -- What an event asks: whether it has a scope, whether its address is canonical, which INVLPG alone asks,
 -- and the tests that it then puts to a mapping.
 pub record Asked : Type 0 where
@@ -168,6 +198,8 @@ asked c Vmxon = nothing
 asked c Vmxoff = nothing
 asked c (NewPcid n) = nothing
 asked c Reset = everything
+asked c (Invpcid o) = asked-if true (invpcid-tests c o)
+asked c (MovToCr3 pcid) = asked-if true (mov-to-cr3-tests c pcid)
 
 -- some mapping may be in scope: the event has a scope, and its address is canonical
 unfoldable pub has-scope : Context → Event → Bool
@@ -192,7 +224,7 @@ moved c pcid cpl place = record { capability = c .capability; width = c .width; 
 
 -- "Entry sets place, PCID and CPL. Exit gives root, the host PCID, CPL 0. VMXON gives root, VMXOFF
 -- outside. Kind 24 sets PCID and CPL; reset gives the context named above. The other events leave the
--- context."
+-- context." Kind 27 "makes that [PCID] current" (Ask 5).
 unfoldable pub next-context : Context → Event → Context
 next-context c (Creation created) = c
 next-context c (Invvpid o) = c
@@ -205,3 +237,5 @@ next-context c Vmxon = moved c (c .pcid) (c .cpl) Root
 next-context c Vmxoff = moved c (c .pcid) (c .cpl) Outside
 next-context c (NewPcid n) = moved c (n .pcid) (n .cpl) (c .place)
 next-context c Reset = after-reset c
+next-context c (Invpcid o) = c
+next-context c (MovToCr3 pcid) = moved c pcid (c .cpl) (c .place)

@@ -63,7 +63,7 @@ pub enum Reading {
     Nothing,
 }
 
-// Document 01, "Events", with the fields of each.
+// Document 01, "Events", and document 02, Ask 5, with the fields of each.
 pub enum Event {
     Creation(Mapping),
     Invvpid(Operands),
@@ -76,9 +76,11 @@ pub enum Event {
     Vmxoff,
     NewPcid(NewPcid),
     Reset,
+    Invpcid(Operands),
+    MovToCr3(u64),
 }
 
-// The operands of INVVPID and INVEPT: the type, and the descriptor's two quadwords.
+// The operands of INVVPID, INVEPT and INVPCID: the type, and the descriptor's two quadwords.
 pub struct Operands {
     pub type_number: u64,
     pub low: u64,

@@ -67,5 +67,10 @@ pub fn next_context(c: Context, e: Event) -> Context
         Event::Invept(_) => c,
         Event::Invlpg(_) => c,
         Event::EptViolation(_) => c,
+        Event::Invpcid(_) => c,
+        Event::MovToCr3(pcid) => {
+            let place = c.place;
+            moved_to(c, pcid, c.cpl, place)
+        }
     }
 }

@@ -9,9 +9,9 @@ use queries::Query;
 use queries::Tags;
 ghost use mathlib.Core.Bool.{cond};
 ghost use mathlib.Core.Path.{_≡_};
-ghost use lib.Dec.{eqb};
+ghost use lib.Dec.{eqb, leb};
 ghost use Rattle.model.specs.Mappings.{mapping, Held};
-ghost use Rattle.model.specs.Scopes.{vpid-named, ep4ta-of, no-tests, invvpid-tests, invept-tests, invlpg-tests, violation-tests, transition-tests, asked, has-scope};
+ghost use Rattle.model.specs.Scopes.{vpid-named, ep4ta-of, no-tests, invvpid-tests, invept-tests, invlpg-tests, violation-tests, transition-tests, pcid-named, invpcid-tests, mov-to-cr3-tests, asked, has-scope};
 ghost use Rattle.model.specs.Reasons.{reason};
 ghost use Rattle.queries.specs.Queries.{any, only, all-but, Meets};
 ghost use Rattle.scopes.specs.Tags.{tags-of-ept};
@@ -187,6 +187,62 @@ fn transition_query() -> Query
     }
 }
 
+// The PCIDs that an INVPCID touches: the named one with types 0 and 1, else any.
+fn pcids_named(o: Operands) -> Tags
+    ensures { λ r. ⌜ r ≡ cond (leb (o .«type_number») 1) (only (pcid-named o)) any ⌝ }
+{
+    if o.type_number <= 1 {
+        return queries::only(o.low % 4096);
+    }
+    queries::any()
+}
+
+// What an INVPCID asks.
+fn invpcid_query(c: Context, o: Operands) -> Query
+    ensures { λ r. ⌜ Meets (invpcid-tests c o) r ⌝ }
+{
+    let place = c.place;
+    let vpid = queries::only(contexts::vpid(place));
+    let pcid = pcids_named(o);
+    let ep4ta = queries::any();
+    Query {
+        kinds: WITH_VPID,
+        vpid,
+        further: true,
+        pcid,
+        global: false,
+        ep4ta,
+        covering: o.type_number == 0,
+        structures: true,
+        physical: 0,
+        linear: addresses::page(o.high),
+        sparing: !(o.type_number == 2),
+    }
+}
+
+// What a MOV to CR3 without bit 63 asks.
+fn mov_to_cr3_query(c: Context, new: u64) -> Query
+    ensures { λ r. ⌜ Meets (mov-to-cr3-tests c new) r ⌝ }
+{
+    let place = c.place;
+    let vpid = queries::only(contexts::vpid(place));
+    let pcid = queries::only(new);
+    let ep4ta = queries::any();
+    Query {
+        kinds: WITH_VPID,
+        vpid,
+        further: true,
+        pcid,
+        global: false,
+        ep4ta,
+        covering: false,
+        structures: false,
+        physical: 0,
+        linear: 0,
+        sparing: true,
+    }
+}
+
 // The event has a scope.
 fn is_scoped(c: Context, e: Event) -> bool
     ensures { λ r. ⌜ r ≡ asked c e .scoped ⌝ }
@@ -206,6 +262,8 @@ fn is_scoped(c: Context, e: Event) -> bool
         Event::Vmxoff => false,
         Event::NewPcid(_) => false,
         Event::Reset => true,
+        Event::Invpcid(_) => true,
+        Event::MovToCr3(_) => true,
     }
 }
 
@@ -225,6 +283,8 @@ fn is_addressed(c: Context, e: Event) -> bool
         Event::Vmxoff => true,
         Event::NewPcid(_) => true,
         Event::Reset => true,
+        Event::Invpcid(_) => true,
+        Event::MovToCr3(_) => true,
     }
 }
 
@@ -252,6 +312,8 @@ pub fn query(c: Context, e: Event) -> Query
         Event::Vmxoff => no_query(),
         Event::NewPcid(_) => no_query(),
         Event::Reset => no_query(),
+        Event::Invpcid(o) => invpcid_query(c, o),
+        Event::MovToCr3(pcid) => mov_to_cr3_query(c, pcid),
     }
 }
 

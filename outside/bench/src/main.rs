@@ -161,7 +161,7 @@ mod tests {
     fn all_items_agree() {
         let items = items().expect("no difference");
         let count = |what| items.iter().filter(|item| item.row.what == what).count();
-        assert_eq!(count(What::Step), 3 * 17 * COUNTS.len());
+        assert_eq!(count(What::Step), 3 * 22 * COUNTS.len());
         assert!(count(What::Lookup) > 30);
         assert_eq!(count(What::Replay), 4);
     }

@@ -23,6 +23,11 @@ fn invept(kind: u64) -> Vec<u8> {
     encode(17, &[kind, EP4TA << 12 | 0x1E, 0])
 }
 
+/// PCID 0, which is current.
+fn invpcid(kind: u64) -> Vec<u8> {
+    encode(26, &[kind, 0, PAGE << 12])
+}
+
 fn entry(vpid: u64) -> Vec<u8> {
     let enabled = u64::from(vpid != 0);
     encode(20, &[enabled, vpid, 0, 0, 0, 0])
@@ -50,6 +55,11 @@ pub fn families() -> Vec<Family> {
         of("INVEPT 1", root, invept(1)),
         of("INVEPT 2", root, invept(2)),
         of("INVLPG", root, encode(18, &[address])),
+        of("INVPCID 0", root, invpcid(0)),
+        of("INVPCID 1", root, invpcid(1)),
+        of("INVPCID 2", root, invpcid(2)),
+        of("INVPCID 3", root, invpcid(3)),
+        of("MOV to CR3", root, encode(27, &[1])),
         of("EPT violation", guest(5, Some(EP4TA)), violation),
         of("entry, VPIDs off", root, entry(0)),
         of("entry, VPID 5", root, entry(5)),

@@ -39,8 +39,8 @@ pub const EP4TA: u64 = 0x123_4567;
 /// A page in the span of one record in four.
 pub const PAGE: u64 = 0x12345;
 
-/// The VPIDs, PCIDs and EP4TAs of records; VPID 5 and PCID 0 are named by
-/// events, and so is VPID 0.
+/// The VPIDs, PCIDs and EP4TAs of records; VPIDs 0 and 5 and PCIDs 0 and 1
+/// are named by events.
 const VPIDS: [u64; 4] = [0, 5, 6, 7];
 const PCIDS: [u64; 4] = [0, 0, 1, 2];
 const EP4TAS: [u64; 4] = [EP4TA, 0x123_4568, 1, 2];

@@ -1,10 +1,13 @@
-//! Document 01's two tables: the fields of each kind of event, by their bytes.
+//! Document 01's two tables and document 02's kinds 26 and 27 (Ask 5): the
+//! fields of each kind of event, by their bytes.
 
 use crate::numbers::{number, put};
 use std::ops::Range;
 
 /// Every known kind of event; the first six are mapping records.
-pub const KINDS: [u8; 16] = [1, 2, 3, 4, 5, 6, 16, 17, 18, 19, 20, 21, 22, 23, 24, 25];
+pub const KINDS: [u8; 18] = [
+    1, 2, 3, 4, 5, 6, 16, 17, 18, 19, 20, 21, 22, 23, 24, 25, 26, 27,
+];
 
 /// Whether events of this kind are creations, whose bytes are a mapping record.
 pub fn is_mapping_kind(kind: u8) -> bool {
@@ -24,16 +27,16 @@ pub const fn sizes(kind: u8) -> Option<&'static [usize]> {
         4 => &[2, 2, 1, 5, 5],
         // VPID, PCID, span, page, structure, EP4TA.
         6 => &[2, 2, 1, 5, 5, 5],
-        // INVVPID and INVEPT: type, the descriptor's low half, its high half.
-        16 | 17 => &[8, 8, 8],
+        // INVVPID, INVEPT and INVPCID: type, the descriptor's low half, its high half.
+        16 | 17 | 26 => &[8, 8, 8],
         // INVLPG: address.
         18 => &[8],
         // EPT violation: guest-physical address, flag, linear address.
         19 => &[8, 1, 8],
         // VM entry: VPIDs enabled, VPID, EPT enabled, EPTP, PCID, CPL.
         20 => &[1, 2, 1, 8, 2, 1],
-        // VM exit: PCID.
-        21 => &[2],
+        // VM exit and MOV to CR3: PCID.
+        21 | 27 => &[2],
         // VMXON, VMXOFF, reset.
         22 | 23 | 25 => &[],
         // New PCID and CPL.

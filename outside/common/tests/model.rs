@@ -96,6 +96,11 @@ fn events() {
             },
         ),
         (encode(25, &[]), Event::Reset),
+        (
+            encode(26, &[kind, low, high]),
+            Event::Invpcid { kind, low, high },
+        ),
+        (encode(27, &[0x203]), Event::MovToCr3 { pcid: 0x203 }),
     ] {
         assert_eq!(Event::decode(&bytes), Some(due));
     }

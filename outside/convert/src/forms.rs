@@ -1,5 +1,5 @@
-//! The events of document 01 as names and fields, in the order of their
-//! bytes.
+//! The events of document 01 and of Ask 5 of document 02 as names and fields,
+//! in the order of their bytes.
 
 use common::{canonical, PAGES};
 use std::fmt::Write;
@@ -21,7 +21,7 @@ pub struct Field {
     pub optional: bool,
 }
 
-/// What a field may hold, so that the event is valid by document 01.
+/// What a field may hold, so that the event is valid.
 #[derive(Clone, Copy, PartialEq, Eq)]
 pub enum Rule {
     /// Whatever fits in its bytes.
@@ -68,7 +68,7 @@ const TYPE: Field = field("type", 8, Rule::Any);
 const ADDRESS: Field = field("address", 8, Rule::Any);
 
 /// Every kind of event.
-pub const FORMS: [Form; 16] = [
+pub const FORMS: [Form; 18] = [
     Form {
         kind: 1,
         name: "linear",
@@ -165,6 +165,21 @@ pub const FORMS: [Form; 16] = [
         kind: 25,
         name: "reset",
         fields: &[],
+    },
+    Form {
+        kind: 26,
+        name: "invpcid",
+        fields: &[
+            TYPE,
+            PCID,
+            field("descriptor bits 63:16", 6, Rule::Zero),
+            ADDRESS,
+        ],
+    },
+    Form {
+        kind: 27,
+        name: "mov-to-cr3",
+        fields: &[PCID],
     },
 ];
 

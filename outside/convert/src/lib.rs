@@ -18,11 +18,11 @@
 //! enabled `ept` is the whole EPTP), and `linear` of an EPT violation. Its
 //! flag and its bytes are zero.
 //!
-//! The names make only events that are valid by document 01: a value out of
-//! its range, such as PCID 4,096, is an error that names the limit. Operands
-//! that the processor itself refuses, such as INVVPID type 4, are valid
-//! events. All else is written as bytes, pairs of hexadecimal digits without
-//! `0x`:
+//! The names make only events that are valid by documents 01 and 02: a value
+//! out of its range, such as PCID 4,096, is an error that names the limit.
+//! Operands that the processor itself refuses, such as INVVPID type 4, are
+//! valid events. All else is written as bytes, pairs of hexadecimal digits
+//! without `0x`:
 //!
 //! ```text
 //! raw 18 00 10 00

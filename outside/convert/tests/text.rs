@@ -27,6 +27,8 @@ entry vpid=off ept=0x123456705e pcid=0xfff cpl=0x3
 switch pcid=0x2 cpl=0x3
 reset
 vmxoff
+invpcid type=0x3 pcid=0xfff address=0xffff800000000000
+mov-to-cr3 pcid=0xfff
 ";
 
 /// The text of a log without its comments.
@@ -186,6 +188,7 @@ fn what_the_names_cannot_say_is_raw() {
     for (bytes, reason) in [
         (vec![24, 0, 0x10, 0], "switch, but pcid is at most 0xfff"),
         (vec![24, 0, 0, 4], "switch, but cpl is at most 0x3"),
+        (vec![27, 0, 0x10], "mov-to-cr3, but pcid is at most 0xfff"),
         (
             [&[16, 2], &[0; 9][..], &[1], &[0; 13]].concat(),
             "invvpid, but descriptor bits 63:16 are zero",
@@ -193,6 +196,14 @@ fn what_the_names_cannot_say_is_raw() {
         (
             [&[17, 2], &[0; 15][..], &[1], &[0; 7]].concat(),
             "invept, but descriptor bits 127:64 are zero",
+        ),
+        (
+            [&[26, 2], &[0; 8][..], &[0x10], &[0; 14]].concat(),
+            "invpcid, but pcid is at most 0xfff",
+        ),
+        (
+            [&[26, 2], &[0; 14][..], &[1], &[0; 8]].concat(),
+            "invpcid, but descriptor bits 63:16 are zero",
         ),
         (
             [&[20, 0, 5], &[0; 13][..]].concat(),
@@ -283,6 +294,7 @@ fn holds_more(event: &[u8]) -> bool {
     let set = |part: &[u8]| part.iter().any(|byte| *byte != 0);
     match event[0] {
         16 => set(&event[11..17]),
+        26 => event[10] & 0xF0 != 0 || set(&event[11..17]),
         17 => set(&event[17..25]),
         19 => event[9] == 0 && set(&event[10..18]),
         20 => event[1] == 0 && set(&event[2..4]) || event[4] == 0 && set(&event[5..13]),

@@ -187,11 +187,14 @@ fn edge_events_of(rng: &mut Rng, count: usize) -> Vec<StepCase> {
     let table = generate::table(rng, &context, count);
     let records = model::mapping::records(&table).unwrap_or_default();
     let vpids: Vec<u64> = records.iter().filter_map(|(_, m)| m.vpid).collect();
+    let pcids: Vec<u64> = records.iter().filter_map(|(_, m)| m.pcid).collect();
     let mut cases = Vec::new();
     for edge in edges(&table) {
         let linear = canonical(edge);
         let vpid = vpids.first().map_or(5, |_| rng.pick(&vpids));
         let invvpid = encode(16, &[0, vpid, linear]);
+        let pcid = pcids.first().map_or(1, |_| rng.pick(&pcids));
+        let invpcid = encode(26, &[0, pcid, linear]);
         let invlpg = encode(18, &[linear]);
         let violation = encode(19, &[edge % (PAGES << 12), 1, linear]);
         let root = Context {
@@ -203,6 +206,7 @@ fn edge_events_of(rng: &mut Rng, count: usize) -> Vec<StepCase> {
         cases.push(step(rng, root, &table, &invvpid));
         cases.push(step(rng, root, &table, &invlpg));
         cases.push(step(rng, context, &table, &invlpg));
+        cases.push(step(rng, context, &table, &invpcid));
         cases.push(step(rng, context, &table, &violation));
     }
     cases

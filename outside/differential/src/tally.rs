@@ -20,7 +20,7 @@ pub struct Tally {
     /// Explanations by the step's answer.
     pub refusals: [u64; 13],
     /// Accepted events by their kind.
-    pub accepted: [u64; 26],
+    pub accepted: [u64; 28],
     /// Accepted events that dropped something.
     pub dropping: u64,
     /// Records dropped.

@@ -4,7 +4,7 @@ use differential::explain::ExplainCase;
 use differential::step::StepCase;
 use differential::work::{self, Work};
 use differential::{draw, sweep, Case, Failure, Tally};
-use generate::Rng;
+use generate::{Rng, KINDS};
 
 const SEED: u64 = 20_260_101;
 
@@ -46,6 +46,9 @@ fn steps_of_every_answer() {
     let tally = compare(200, work::steps);
     assert!(tally.steps.iter().all(|count| *count > 1_000));
     assert!(tally.dropping > 1_000);
+    for kind in KINDS {
+        assert!(tally.accepted[usize::from(kind)] > 100, "kind {kind}");
+    }
 }
 
 #[test]
@@ -62,7 +65,7 @@ fn every_context_near_a_bound() {
 
 #[test]
 fn every_kind_in_every_place() {
-    let tally = sweep_steps(4, sweep::matrix);
+    let tally = sweep_steps(8, sweep::matrix);
     for answer in [0, 5, 6, 7, 8, 9, 10, 11] {
         assert!(tally.steps[answer] > 50, "answer {answer}");
     }

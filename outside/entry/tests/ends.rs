@@ -26,11 +26,11 @@ fn logs() -> Vec<(Vec<u8>, String)> {
         (vec![0], unknown(1, 0)),
         (vec![7], unknown(1, 0)),
         (vec![22, 255, 22, 22], unknown(2, 1)),
-        ([VMXON, &entry, &[26]].concat(), unknown(3, 17)),
+        ([VMXON, &entry, &[28]].concat(), unknown(3, 17)),
         ([VMXON, &bad_field, &bad_field[..3]].concat(), cut(3, 5)),
         (vec![25; 65_536], String::new()),
         ([&[25; 65_535][..], &[16]].concat(), cut(65_536, 65_535)),
-        ([&[25; 65_535][..], &[26]].concat(), unknown(65_536, 65_535)),
+        ([&[25; 65_535][..], &[28]].concat(), unknown(65_536, 65_535)),
     ];
     for end in 1..entry.len() {
         logs.push(([VMXON, &entry[..end]].concat(), cut(2, 1)));

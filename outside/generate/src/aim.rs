@@ -20,10 +20,16 @@ pub fn aimed(rng: &mut Rng, aim: usize) -> (Context, Vec<u8>) {
             let event = event_of_kind(rng, &context, kind);
             (context, event)
         }
+        7 if rng.one_in(3) => {
+            let mut context = context(rng);
+            context.cpl = 0;
+            let event = bad_invpcid(rng, &context);
+            (context, event)
+        }
         7 => {
             let mut context = context(rng);
             context.cpl = 1 + rng.below(3) as u64;
-            let kind = rng.pick(&[16, 17, 18, 18, 20, 22, 23]);
+            let kind = rng.pick(&[16, 17, 18, 18, 20, 22, 23, 26, 27]);
             let event = event_of_kind(rng, &context, kind);
             (context, event)
         }
@@ -66,6 +72,19 @@ pub fn aimed(rng: &mut Rng, aim: usize) -> (Context, Vec<u8>) {
     }
 }
 
+/// An INVPCID with some operand at a bound, or of type 0 with an address that
+/// is not canonical.
+fn bad_invpcid(rng: &mut Rng, context: &Context) -> Vec<u8> {
+    let mut event = event_of_kind(rng, context, 26);
+    if rng.one_in(2) {
+        return near(rng, &event);
+    }
+    let address = pool::canonical(rng) ^ 1 << (47 + rng.below(17));
+    set_field(&mut event, 0, 0);
+    set_field(&mut event, 2, address);
+    event
+}
+
 /// An entry with its VPID or its EPTP at a bound, or any field.
 fn bad_entry(rng: &mut Rng, context: &Context) -> Vec<u8> {
     let mut event = event_of_kind(rng, context, 20);
@@ -84,10 +103,12 @@ fn bad_entry(rng: &mut Rng, context: &Context) -> Vec<u8> {
 
 /// An event that has a scope, in a context in which it should be accepted.
 pub fn dropping(rng: &mut Rng) -> (Context, Vec<u8>) {
-    let kind = rng.pick(&[16, 16, 17, 17, 18, 18, 19, 19, 20, 21, 25]);
+    let kind = rng.pick(&[
+        16, 16, 17, 17, 18, 18, 19, 19, 20, 21, 25, 26, 26, 26, 27, 27,
+    ]);
     let mut context = match kind {
         16 | 17 | 20 => root(rng),
-        18 | 25 => context(rng),
+        18 | 25 | 26 | 27 => context(rng),
         _ => guest(rng),
     };
     if kind == 19 {

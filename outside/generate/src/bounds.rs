@@ -42,6 +42,20 @@ const LOW_16: &[u64] = &[
     5 | 1 << 63,
     u64::MAX,
 ];
+const LOW_26: &[u64] = &[
+    0,
+    1,
+    4_095,
+    4_096,
+    4_097,
+    1 | 1 << 13,
+    1 | 1 << 15,
+    0xFFFF,
+    1 << 16,
+    1 | 1 << 32,
+    1 | 1 << 63,
+    u64::MAX,
+];
 const HIGH_17: &[u64] = &[0, 1, 1 << 32, 1 << 63, u64::MAX];
 const LINEAR: &[u64] = &[
     0,
@@ -93,6 +107,8 @@ fn bounds(kind: u8) -> &'static [&'static [u64]] {
         20 => &[FLAG, WORD, FLAG, EPTP, PCID, CPL],
         21 => &[PCID],
         24 => &[PCID, CPL],
+        26 => &[KIND_16, LOW_26, LINEAR],
+        27 => &[PCID],
         _ => &[],
     }
 }

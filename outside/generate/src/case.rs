@@ -81,7 +81,7 @@ pub fn case(rng: &mut Rng) -> Case {
     }
 }
 
-/// Gives a whole INVVPID, INVLPG or EPT violation the page of some record.
+/// Gives a whole INVVPID, INVPCID, INVLPG or EPT violation the page of some record.
 fn aim_at_some_record(rng: &mut Rng, table: &[u8], event: &mut [u8]) {
     let Some(page) = page_of_some(rng, table) else {
         return;
@@ -89,7 +89,7 @@ fn aim_at_some_record(rng: &mut Rng, table: &[u8], event: &mut [u8]) {
     let address = pool::canonical_of(page, 0x9AB);
     let whole = |kind: &&u8| length(**kind) == Some(event.len());
     match event.first().filter(whole) {
-        Some(16) => set_field(event, 2, address),
+        Some(16 | 26) => set_field(event, 2, address),
         Some(18) => set_field(event, 0, address),
         Some(19) if rng.one_in(2) => set_field(event, 2, address),
         Some(19) => set_field(event, 0, address % (PAGES << 12)),

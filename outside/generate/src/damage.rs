@@ -15,7 +15,7 @@ pub fn damage(rng: &mut Rng, bytes: &mut Vec<u8>) {
     match rng.below(8) {
         0 => bytes[at] ^= 1 << rng.below(8),
         1 => bytes[at] = rng.number() as u8,
-        2 => bytes[0] = rng.pick(&[0, 7, 8, 10, 15, 26, 27, 128, 255]),
+        2 => bytes[0] = rng.pick(&[0, 7, 8, 10, 15, 28, 29, 128, 255]),
         3 => bytes.truncate(at),
         4 => bytes.truncate(bytes.len() - 1),
         5 => bytes.push(rng.number() as u8),

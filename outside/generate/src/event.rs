@@ -12,7 +12,7 @@ pub fn event(rng: &mut Rng, context: &Context) -> Vec<u8> {
         0..=3 => 1 + rng.below(6),
         4 => 16,
         5 => 17,
-        _ => 16 + rng.below(10),
+        _ => 16 + rng.below(12),
     };
     event_of_kind(rng, context, kind as u8)
 }
@@ -28,6 +28,8 @@ pub fn event_of_kind(rng: &mut Rng, context: &Context, kind: u8) -> Vec<u8> {
         20 => entry(rng),
         21 => encode(21, &[pool::pcid(rng)]),
         24 => encode(24, &[pool::pcid(rng), rng.pick(&[0, 0, 0, 1, 3])]),
+        26 => invpcid(rng, context),
+        27 => encode(27, &[pool::pcid(rng)]),
         _ => encode(kind, &[]),
     }
 }
@@ -92,6 +94,33 @@ fn eptp(rng: &mut Rng) -> u64 {
 /// An EPTP that is good with the program's capability and width.
 pub fn good_eptp(rng: &mut Rng) -> u64 {
     pool::ep4ta(rng) << 12 | rng.pick(&[0x1E, 0x1E, 0x5E, 0x18, 0x58])
+}
+
+/// An INVPCID whose operands are mostly good.
+fn invpcid(rng: &mut Rng, context: &Context) -> Vec<u8> {
+    let kind = if rng.one_in(12) {
+        rng.pick(&[4, 0x100, (1 << 32) + 1, 1 << 63, u64::MAX])
+    } else {
+        rng.below(4) as u64
+    };
+    let mut low = named_pcid(rng, context);
+    if rng.one_in(10) {
+        low |= 1 << (12 + rng.below(52));
+    }
+    encode(26, &[kind, low, pool::linear(rng)])
+}
+
+/// An INVPCID that is accepted at CPL 0.
+pub fn good_invpcid(rng: &mut Rng, context: &Context) -> Vec<u8> {
+    let kind = rng.pick(&[0, 0, 0, 0, 1, 1, 2, 3]);
+    let pcid = named_pcid(rng, context);
+    encode(26, &[kind, pcid, pool::canonical(rng)])
+}
+
+/// The current PCID, or any.
+fn named_pcid(rng: &mut Rng, context: &Context) -> u64 {
+    let pcid = pool::pcid(rng);
+    rng.pick(&[context.pcid % 4_096, pcid])
 }
 
 pub fn invlpg(rng: &mut Rng) -> Vec<u8> {

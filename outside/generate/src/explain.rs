@@ -57,7 +57,7 @@ pub fn explain(rng: &mut Rng) -> Explain {
 /// exit or a reset, which test little, and often INVVPID type 3.
 fn accepted(rng: &mut Rng) -> (Context, Vec<u8>) {
     let (context, mut event) = dropping(rng);
-    if event[0] >= 20 && !rng.one_in(4) {
+    if (20..=25).contains(&event[0]) && rng.one_in(2) {
         return accepted(rng);
     }
     if event[0] == 16 && rng.one_in(2) {
@@ -73,7 +73,7 @@ fn accepted(rng: &mut Rng) -> (Context, Vec<u8>) {
 /// are current, but for some of them.
 fn near_scope(rng: &mut Rng, context: &Context, event: &[u8]) -> Vec<u8> {
     let kinds: &[u8] = match event.first() {
-        Some(16 | 18 | 20 | 21) => &[1, 3, 4, 6],
+        Some(16 | 18 | 20 | 21 | 26 | 27) => &[1, 3, 4, 6],
         Some(17 | 19) => &[2, 3, 5, 6],
         _ => &[1, 2, 3, 4, 5, 6],
     };
@@ -92,6 +92,11 @@ fn near_scope(rng: &mut Rng, context: &Context, event: &[u8]) -> Vec<u8> {
         Some(19) if kind == 2 || kind == 5 => page = number(0) >> 12,
         Some(19) => page = number(2) >> 12,
         Some(20 | 21) => tags.vpid = 0,
+        Some(26) => {
+            tags.pcid = number(1) % (1 << 12);
+            page = number(2) >> 12;
+        }
+        Some(27) => tags.pcid = number(0) % (1 << 12),
         _ => {}
     }
     if tags.vpid == 0 && rng.one_in(4) {

@@ -1,6 +1,8 @@
 //! Events that should be accepted.
 
-use crate::event::{entry_with, good_eptp, good_invept, good_invvpid, invlpg, violation};
+use crate::event::{
+    entry_with, good_eptp, good_invept, good_invpcid, good_invvpid, invlpg, violation,
+};
 use crate::pool;
 use crate::record::{current, tagged};
 use crate::Rng;
@@ -15,7 +17,7 @@ pub fn fitting(rng: &mut Rng, context: &Context) -> (Vec<u8>, Context) {
         // Else nothing privileged would be seen for long.
         return switch(rng, context, 0);
     }
-    match rng.below(20) {
+    match rng.below(22) {
         0..=10 => (creation(rng, context), same),
         11 if context.cpl == 0 => (invlpg(rng), same),
         12 => {
@@ -31,6 +33,11 @@ pub fn fitting(rng: &mut Rng, context: &Context) -> (Vec<u8>, Context) {
                 ..*context
             },
         ),
+        14 if context.cpl == 0 => (good_invpcid(rng, context), same),
+        15 if context.cpl == 0 => {
+            let pcid = pool::pcid(rng);
+            (encode(27, &[pcid]), Context { pcid, ..*context })
+        }
         _ => match context.place {
             Place::Outside if context.cpl == 0 => (
                 vec![22],

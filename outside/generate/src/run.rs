@@ -46,12 +46,12 @@ fn whole(rng: &mut Rng, context: &mut Context) -> Vec<u8> {
         // These change no context, whether they are accepted or not.
         0 => record(rng, context),
         1 => {
-            let kind = rng.pick(&[1, 2, 3, 4, 5, 6, 16, 17, 18, 19]);
+            let kind = rng.pick(&[1, 2, 3, 4, 5, 6, 16, 17, 18, 19, 26]);
             let event = event_of_kind(rng, context, kind);
             near(rng, &event)
         }
         2 => {
-            let kind = rng.pick(&[16, 17, 18, 19]);
+            let kind = rng.pick(&[16, 17, 18, 19, 26]);
             event_of_kind(rng, context, kind)
         }
         3 => refused(rng, context),
@@ -63,12 +63,13 @@ fn whole(rng: &mut Rng, context: &mut Context) -> Vec<u8> {
     }
 }
 
-/// An event of kinds 20 to 24 that is refused in this context.
+/// An event of kinds 20 to 24 or 27 that is refused in this context.
 fn refused(rng: &mut Rng, context: &Context) -> Vec<u8> {
     match (rng.below(4), context.place) {
         (0, _) => {
             // PCID 4,096.
-            let mut event = event_of_kind(rng, context, 24);
+            let kind = rng.pick(&[24, 27]);
+            let mut event = event_of_kind(rng, context, kind);
             set_field(&mut event, 0, 4_096);
             event
         }
@@ -99,7 +100,7 @@ pub fn log(rng: &mut Rng, length: usize) -> Vec<u8> {
     }
     match rng.below(8) {
         0 => log.truncate(length),
-        1 => log.push(rng.pick(&[0, 7, 8, 15, 26, 255])),
+        1 => log.push(rng.pick(&[0, 7, 8, 15, 28, 255])),
         2 if !log.is_empty() => {
             let at = rng.below(log.len());
             log[at] = rng.number() as u8;

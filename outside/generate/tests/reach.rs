@@ -1,6 +1,6 @@
 //! The generator reaches every answer often, and gives the same each time.
 
-use common::{field, sizes, KINDS, LOG_LIMIT};
+use common::{canonical, field, sizes, KINDS, LOG_LIMIT};
 use generate::{case, events, explain, filling_log, log, near_events, query, Rng};
 use model::{lookup, step};
 
@@ -11,7 +11,7 @@ fn every_answer_is_reached() {
     println!("seed {SEED}");
     let mut rng = Rng::new(SEED);
     let mut reached = [0; 13];
-    let mut kinds_accepted = [0; 26];
+    let mut kinds_accepted = [0; 28];
     let mut dropping = 0;
     for _ in 0..20_000 {
         let mut case = case(&mut rng);
@@ -32,6 +32,35 @@ fn every_answer_is_reached() {
     assert!(dropping >= 500);
 }
 
+/// Each ground of INVPCID's answer 7 alone: the CPL, the type, the reserved
+/// bits, the address.
+#[test]
+fn every_ground_of_invpcid_is_reached() {
+    let mut rng = Rng::new(SEED);
+    let mut reached = [0; 4];
+    for _ in 0..20_000 {
+        let mut case = case(&mut rng);
+        let step = step(&case.context, &case.table, &case.event, &mut case.new);
+        if step.answer != 7 || case.event[0] != 26 {
+            continue;
+        }
+        let number = |nth| field(&case.event, nth).unwrap_or(0);
+        let (kind, low, address) = (number(0), number(1), number(2));
+        let grounds = [
+            case.context.cpl > 0,
+            kind > 3,
+            low >> 12 != 0,
+            kind == 0 && address != canonical(address),
+        ];
+        if grounds.iter().filter(|holds| **holds).count() == 1 {
+            let alone = grounds.iter().position(|holds| *holds);
+            reached[alone.expect("a ground")] += 1;
+        }
+    }
+    println!("grounds reached: {reached:?}");
+    assert!(reached.iter().all(|count| *count >= 30));
+}
+
 #[test]
 fn lookups_find() {
     let mut rng = Rng::new(SEED);
@@ -48,7 +77,7 @@ fn lookups_find() {
     assert!(found >= 1_000);
 }
 
-/// The reasons that document 01's tests leave possible for an event of a kind.
+/// The reasons that the papers' tests leave possible for an event of a kind.
 fn possible(kind: u8) -> &'static [u64] {
     match kind {
         16 => &[1, 4, 5, 8, 9, 10],
@@ -57,6 +86,8 @@ fn possible(kind: u8) -> &'static [u64] {
         19 => &[1, 4, 5, 6, 7, 8, 10],
         20 | 21 => &[1, 2, 4, 5, 10],
         25 => &[1, 10],
+        26 => &[1, 4, 5, 6, 8, 9, 10],
+        27 => &[1, 4, 5, 6, 9, 10],
         _ => &[1, 2],
     }
 }
@@ -67,7 +98,7 @@ fn every_reason_is_reached() {
     let mut rng = Rng::new(SEED);
     let mut reached = [0; 11];
     let mut answers = [0; 13];
-    let mut by_kind = [[0; 11]; 26];
+    let mut by_kind = [[0; 11]; 28];
     for _ in 0..50_000 {
         let case = explain(&mut rng);
         let reason = model::explain(&case.context, &case.record, &case.event);

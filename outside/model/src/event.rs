@@ -37,17 +37,21 @@ pub enum Event {
     Switch { pcid: u64, cpl: u64 },
     /// Kind 25.
     Reset,
+    /// Kind 26 (document 02, Ask 5), with the descriptor as in kind 16.
+    Invpcid { kind: u64, low: u64, high: u64 },
+    /// Kind 27 (Ask 5): MOV to CR3 without bit 63.
+    MovToCr3 { pcid: u64 },
 }
 
 /// The length of an event with its kind byte; None for an unknown kind.
 pub fn length(kind: u8) -> Option<usize> {
     let body = match kind {
         1..=6 => return mapping::length(kind),
-        16 | 17 => 8 + 16,
+        16 | 17 | 26 => 8 + 16,
         18 => 8,
         19 => 8 + 1 + 8,
         20 => 1 + 2 + 1 + 8 + 2 + 1,
-        21 => 2,
+        21 | 27 => 2,
         22 | 23 | 25 => 0,
         24 => 2 + 1,
         _ => return None,
@@ -110,6 +114,14 @@ impl Event {
                 cpl: take_cpl(&mut fields)?,
             },
             25 => Event::Reset,
+            26 => Event::Invpcid {
+                kind: fields.take(8)?,
+                low: fields.take(8)?,
+                high: fields.take(8)?,
+            },
+            27 => Event::MovToCr3 {
+                pcid: take_pcid(&mut fields)?,
+            },
             _ => return None,
         };
         fields.end()?;
@@ -153,11 +165,13 @@ impl Event {
                 ..*context
             },
             Event::Reset => Context::after_reset(context.capability, context.width),
+            Event::MovToCr3 { pcid } => Context { pcid, ..*context },
             Event::Creation(_)
             | Event::Invvpid { .. }
             | Event::Invept { .. }
             | Event::Invlpg { .. }
-            | Event::EptViolation { .. } => *context,
+            | Event::EptViolation { .. }
+            | Event::Invpcid { .. } => *context,
         }
     }
 }

@@ -83,7 +83,7 @@ fn exits(context: &Context, event: &Event) -> bool {
     one_that_exits && context.in_guest()
 }
 
-/// 7: #GP(0).
+/// 7: #GP(0). All grounds of INVPCID are here (document 02, Ask 5).
 fn protected(context: &Context, event: &Event) -> bool {
     let privileged = matches!(
         event,
@@ -93,8 +93,21 @@ fn protected(context: &Context, event: &Event) -> bool {
             | Event::Entry { .. }
             | Event::Vmxon
             | Event::Vmxoff
+            | Event::Invpcid { .. }
+            | Event::MovToCr3 { .. }
     );
-    privileged && context.cpl > 0
+    privileged && context.cpl > 0 || bad_invpcid(event)
+}
+
+/// A type above 3, descriptor bits 63:12 not zero, for every type, or type 0
+/// with a non-canonical address.
+fn bad_invpcid(event: &Event) -> bool {
+    let Event::Invpcid { kind, low, high } = *event else {
+        return false;
+    };
+    let reserved = low >> 12;
+    let address = high;
+    kind > 3 || reserved != 0 || kind == 0 && !canonical(address)
 }
 
 /// 8: VMfail, invalid operand.

@@ -7,7 +7,7 @@
 //!
 //! * [`context`]: the context and its ranges.
 //! * [`mapping`]: mapping records and tables.
-//! * [`event`]: events, and the context after one.
+//! * [`event`]: events (with Ask 5's two), and the context after one.
 //! * [`judge`]: the numbered answers.
 //! * [`scope`]: the required scopes.
 //! * [`reason`]: why a mapping went or stayed (Ask 1).

@@ -1,7 +1,7 @@
-//! Why a mapping went or stayed (document 02, Ask 1).
+//! Why a mapping went or stayed (document 02, Ask 1; with Asks 2 and 5).
 //!
 //! The reasons are tried in the paper's order, and the first that holds is
-//! given. Each is written down from document 01 by itself, and not from
+//! given. Each is written down from the papers by itself, and not from
 //! [`crate::scope`], so that the two can be compared.
 
 use crate::context::Context;
@@ -25,7 +25,6 @@ pub enum Reason {
     WrongEp4ta,
     /// The record does not cover the address.
     NotCovering,
-    /// SparedAsGlobal as global.
     SparedAsGlobal,
     InScope,
 }
@@ -125,6 +124,7 @@ fn wrong_kind(event: &Event, mapping: &Mapping) -> bool {
     let touched: &[u64] = match event {
         Event::Invvpid { .. } | Event::Invlpg { .. } => &[1, 3, 4, 6],
         Event::Entry { .. } | Event::Exit { .. } => &[1, 3, 4, 6],
+        Event::Invpcid { .. } | Event::MovToCr3 { .. } => &[1, 3, 4, 6],
         Event::Invept { .. } => &[2, 3, 5, 6],
         Event::EptViolation {
             linear: Some(_), ..
@@ -145,13 +145,14 @@ fn wrong_vpid(context: &Context, event: &Event, mapping: &Mapping) -> bool {
         Event::Invvpid { kind: 2, .. } => own == 0,
         Event::Invvpid { low, .. } => own != low & 0xFFFF,
         Event::Invlpg { .. } | Event::EptViolation { .. } => own != context.vpid(),
+        Event::Invpcid { .. } | Event::MovToCr3 { .. } => own != context.vpid(),
         Event::Entry { .. } | Event::Exit { .. } => own != 0,
         _ => false,
     }
 }
 
 /// Tested of kinds 1, 3, 4, 6 by INVLPG, but for a global mapping, and by an
-/// EPT violation, global or not.
+/// EPT violation, INVPCID types 0 and 1 and MOV to CR3, global or not.
 fn wrong_pcid(context: &Context, event: &Event, mapping: &Mapping) -> bool {
     let Some(own) = mapping.pcid else {
         return false;
@@ -159,6 +160,10 @@ fn wrong_pcid(context: &Context, event: &Event, mapping: &Mapping) -> bool {
     match event {
         Event::Invlpg { .. } => own != context.pcid && !mapping.global,
         Event::EptViolation { .. } => own != context.pcid,
+        Event::Invpcid {
+            kind: 0 | 1, low, ..
+        } => own != low & 0xFFF,
+        Event::MovToCr3 { pcid } => own != *pcid,
         _ => false,
     }
 }
@@ -175,11 +180,12 @@ fn wrong_ep4ta(context: &Context, event: &Event, mapping: &Mapping) -> bool {
     }
 }
 
-/// Tested by INVVPID type 0, by INVLPG of kinds 1 and 3 only (Ask 2), and by an
-/// EPT violation, of kinds 2 and 5 by the guest-physical address.
+/// Tested by INVVPID and INVPCID type 0, by INVLPG of kinds 1 and 3 only (Ask
+/// 2), and by an EPT violation, of kinds 2 and 5 by the guest-physical address.
 fn not_covered(event: &Event, mapping: &Mapping) -> bool {
     let address = match *event {
         Event::Invvpid { kind: 0, high, .. } => Some(high),
+        Event::Invpcid { kind: 0, high, .. } => Some(high),
         Event::Invlpg { address } if mapping.is_translation() => Some(address),
         Event::EptViolation {
             guest_physical,
@@ -193,7 +199,17 @@ fn not_covered(event: &Event, mapping: &Mapping) -> bool {
     address.is_some_and(|address| !mapping.covers(page(address)))
 }
 
-/// By INVVPID type 3, kinds 1 and 3 with global 1.
+/// By INVVPID type 3, INVPCID types 0, 1 and 3 and MOV to CR3: kinds 1 and 3
+/// with global 1.
 fn spared(event: &Event, mapping: &Mapping) -> bool {
-    matches!(event, Event::Invvpid { kind: 3, .. }) && mapping.global
+    let sparing = matches!(
+        event,
+        Event::Invvpid { kind: 3, .. }
+            | Event::Invpcid {
+                kind: 0 | 1 | 3,
+                ..
+            }
+            | Event::MovToCr3 { .. }
+    );
+    sparing && mapping.global
 }

@@ -19,6 +19,8 @@ pub fn in_scope(context: &Context, event: &Event, mapping: &Mapping) -> bool {
         } => violation(context, guest_physical, linear, mapping),
         Event::Entry { vpid, .. } => vpid.is_none() && mapping.vpid == Some(0),
         Event::Exit { .. } => context.vpid() == 0 && mapping.vpid == Some(0),
+        Event::Invpcid { kind, low, high } => invpcid(context, kind, low & 0xFFF, high, mapping),
+        Event::MovToCr3 { pcid } => invpcid(context, 1, pcid, 0, mapping),
     }
 }
 
@@ -77,4 +79,21 @@ fn violation(
     mapping.vpid == Some(context.vpid())
         && mapping.pcid == Some(context.pcid)
         && linear.is_some_and(|address| mapping.covers(page(address)))
+}
+
+/// Kinds 1, 3, 4, 6 of the current VPID, with any EP4TA or none. Structure
+/// caches count as not global. MOV to CR3 does type 1's work (document 02,
+/// Ask 5).
+fn invpcid(context: &Context, kind: u64, pcid: u64, address: u64, mapping: &Mapping) -> bool {
+    if mapping.vpid != Some(context.vpid()) {
+        return false;
+    }
+    let named = mapping.pcid == Some(pcid);
+    match kind {
+        0 => named && mapping.covers(page(address)) && !mapping.global,
+        1 => named && !mapping.global,
+        2 => true,
+        3 => !mapping.global,
+        _ => false,
+    }
 }

@@ -267,11 +267,37 @@ fn write(
         Event::Entry { vpid: None, .. } => vpid_zero(table, new),
         Event::Exit { .. } if context.vpid() == 0 => vpid_zero(table, new),
         Event::Entry { .. } | Event::Exit { .. } => keep_all(new),
+        Event::Invpcid { kind, low, high } => {
+            let vpid = context.vpid();
+            let pcid = low & 0xFFF;
+            let page = page(high);
+            match kind {
+                0 => sweep(table, new, |r| {
+                    r.has_vpid()
+                        && r.vpid() == vpid
+                        && r.pcid() == pcid
+                        && r.covers(page)
+                        && !r.global()
+                }),
+                1 => pcid_not_global(table, vpid, pcid, new),
+                2 => sweep(table, new, |r| r.has_vpid() && r.vpid() == vpid),
+                _ => sweep(table, new, |r| {
+                    r.has_vpid() && r.vpid() == vpid && !r.global()
+                }),
+            }
+        }
+        Event::MovToCr3 { pcid } => pcid_not_global(table, context.vpid(), pcid, new),
     }
 }
 
 fn vpid_zero(table: &[u8], new: &mut [u8]) -> (usize, usize) {
     sweep(table, new, |r| r.has_vpid() && r.vpid() == 0)
+}
+
+fn pcid_not_global(table: &[u8], vpid: u64, pcid: u64, new: &mut [u8]) -> (usize, usize) {
+    sweep(table, new, |r| {
+        r.has_vpid() && r.vpid() == vpid && r.pcid() == pcid && !r.global()
+    })
 }
 
 fn violation(

@@ -1,4 +1,4 @@
-//! Why a mapping went or stayed (document 02, Asks 1 and 2):
+//! Why a mapping went or stayed (document 02, Asks 1, 2 and 5):
 //! rows worked out from the papers by hand, then random inputs.
 
 mod common;
@@ -67,6 +67,7 @@ fn refused_with_the_steps_number() {
         (with_width(root(), 53), RESET.to_vec(), 1),
         (root(), vec![], 4),
         (root(), vec![26], 4),
+        (root(), vec![28], 4),
         (root(), RESET.repeat(2), 4),
         (root(), switch(4_096, 0), 4),
         (outside(), invvpid(1, 5, 0), 5),
@@ -76,6 +77,12 @@ fn refused_with_the_steps_number() {
         (guest(5, None), VMXON.to_vec(), 6),
         (user, invlpg(0), 7),
         (user, invlpg(ODD), 7),
+        (user, invpcid(1, 1, 0), 7),
+        (user, mov_to_cr3(1), 7),
+        (root(), invpcid(4, 1, 0), 7),
+        (root(), invpcid(2, 1 << 12, 0), 7),
+        (root(), invpcid(0, 1, ODD), 7),
+        (root(), mov_to_cr3(4_096), 4),
         (root(), invvpid(0, 5, ODD), 8),
         (root(), invvpid(4, 5, 0), 8),
         (root(), invept(1, 0, 0), 8),
@@ -472,6 +479,142 @@ fn violation_and_globals() {
     };
     assert_eq!(of(&context, &event, 2, |_| ()), InScope);
     assert_eq!(of(&context, &event, 5, |_| ()), InScope);
+}
+
+// INVPCID and MOV to CR3 (Ask 5)
+
+/// INVPCID types 1 to 3 do not look at the address, nor types 2 and 3 at the
+/// PCID; here all of them name PCID 1.
+#[test]
+fn invpcid_wrong_kind_and_wrong_vpid_first() {
+    let with = |r| [r, WrongKind, r, r, WrongKind, r];
+    let global = |m: &mut M| {
+        all_wrong(m);
+        m.global = 1;
+    };
+    for (context, other) in [(ept_guest(), 0), (guest(5, None), 0), (root(), 5)] {
+        for event in [
+            invpcid(0, 1, 0),
+            invpcid(1, 1, ODD),
+            invpcid(2, 1, ODD),
+            invpcid(3, 1, ODD),
+            mov_to_cr3(1),
+        ] {
+            assert_eq!(kinds(&context, &event, all_wrong), with(WrongVpid));
+            assert_eq!(kinds(&context, &event, global), with(WrongVpid));
+            assert_eq!(kinds(&context, &event, |m| m.vpid = other), with(WrongVpid));
+        }
+    }
+}
+
+#[test]
+fn invpcid_type_0_in_order() {
+    // The current PCID, 1, is not the one that is named.
+    let context = guest(5, None);
+    let event = invpcid(0, 3, 0);
+    let each = |f: &dyn Fn(&mut M)| kinds(&context, &event, f);
+    let with = |r| [r, WrongKind, r, r, WrongKind, r];
+    let own_vpid = |m: &mut M| {
+        all_wrong(m);
+        m.vpid = 5;
+    };
+    assert_eq!(each(&own_vpid), with(WrongPcid));
+    assert_eq!(each(&|_| ()), with(WrongPcid));
+    let own_pcid = |m: &mut M| {
+        own_vpid(m);
+        m.pcid = 3;
+    };
+    assert_eq!(each(&own_pcid), with(NotCovering));
+    // Any EP4TA, with EPT off too.
+    let covers = |m: &mut M| {
+        m.pcid = 3;
+        m.ep4ta = 9;
+    };
+    assert_eq!(each(&covers), with(InScope));
+}
+
+/// 9.6: "that PCID" and "not global" are two tests, and the cover is between
+/// them. Structure caches count as not global.
+#[test]
+fn invpcid_and_globals() {
+    let context = guest(5, None);
+    let with = |r| [r, WrongKind, r, r, WrongKind, r];
+    let spared = [
+        SparedAsGlobal,
+        WrongKind,
+        SparedAsGlobal,
+        InScope,
+        WrongKind,
+        InScope,
+    ];
+    let global = |pcid, page| {
+        move |m: &mut M| {
+            m.pcid = pcid;
+            m.page = page;
+            m.global = 1;
+        }
+    };
+    let far = FAR >> 12;
+    let each = |kind, f: &dyn Fn(&mut M)| kinds(&context, &invpcid(kind, 3, 0), f);
+    assert_eq!(each(0, &global(2, 0)), with(WrongPcid));
+    assert_eq!(each(0, &global(3, far)), with(NotCovering));
+    assert_eq!(each(0, &global(3, 0)), spared);
+    assert_eq!(each(1, &global(2, 0)), with(WrongPcid));
+    assert_eq!(each(1, &global(3, far)), spared);
+    for pcid in [1, 2, 3] {
+        assert_eq!(each(2, &global(pcid, far)), with(InScope));
+        assert_eq!(each(3, &global(pcid, far)), spared);
+    }
+}
+
+#[test]
+fn invpcid_types_1_to_3_not_global() {
+    let with = |r| [r, WrongKind, r, r, WrongKind, r];
+    let far = |pcid| {
+        move |m: &mut M| {
+            all_wrong(m);
+            m.vpid = 5;
+            m.pcid = pcid;
+        }
+    };
+    let each = |kind, pcid| kinds(&ept_guest(), &invpcid(kind, 3, ODD), far(pcid));
+    assert_eq!(each(1, 2), with(WrongPcid));
+    assert_eq!(each(1, 3), with(InScope));
+    for pcid in [1, 2, 3] {
+        assert_eq!(each(2, pcid), with(InScope));
+        assert_eq!(each(3, pcid), with(InScope));
+    }
+}
+
+/// As INVPCID type 1 of the new PCID; the current one, 1, does not matter.
+#[test]
+fn mov_to_cr3_in_order() {
+    let with = |r| [r, WrongKind, r, r, WrongKind, r];
+    let spared = [
+        SparedAsGlobal,
+        WrongKind,
+        SparedAsGlobal,
+        InScope,
+        WrongKind,
+        InScope,
+    ];
+    let far = |pcid, global| {
+        move |m: &mut M| {
+            all_wrong(m);
+            m.vpid = 5;
+            m.pcid = pcid;
+            m.global = global;
+        }
+    };
+    for context in [guest(5, None), ept_guest(), guest(5, Some(8))] {
+        let each = |pcid, global| kinds(&context, &mov_to_cr3(3), far(pcid, global));
+        for pcid in [1, 2] {
+            assert_eq!(each(pcid, 0), with(WrongPcid));
+            assert_eq!(each(pcid, 1), with(WrongPcid));
+        }
+        assert_eq!(each(3, 0), with(InScope));
+        assert_eq!(each(3, 1), spared);
+    }
 }
 
 // VM entry, VM exit, reset

@@ -7,7 +7,9 @@ use generate::Rng;
 pub fn every_kind(rng: &mut Rng) -> Vec<u8> {
     let mut bytes = Vec::new();
     let mut context = model::Context::program();
-    for kind in [22, 20, 1, 2, 3, 4, 5, 6, 19, 18, 24, 21, 16, 17, 23, 25] {
+    for kind in [
+        22, 20, 1, 2, 3, 4, 5, 6, 19, 18, 26, 27, 24, 21, 16, 17, 23, 25,
+    ] {
         let event = generate::event_of_kind(rng, &context, kind);
         context = model::step(&context, &[], &event, &mut []).context;
         bytes.extend(event);

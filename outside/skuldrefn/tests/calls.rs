@@ -46,6 +46,33 @@ fn a_creation_and_a_reset() {
     assert_eq!(step.context, Context::program());
 }
 
+/// A goes, and a global mapping of the same PCID stays.
+#[test]
+fn invpcid_and_mov_to_cr3() {
+    let mut global = A;
+    global[5] = 1;
+    let table = [A, global].concat();
+    // INVPCID type 1, PCID 1.
+    let invpcid = [&[26, 1], &[0; 7][..], &[1], &[0; 15]].concat();
+    let mov_to_cr3 = |pcid| [27, pcid, 0];
+    for event in [&invpcid[..], &mov_to_cr3(1)] {
+        let mut new = [0xA5; 34];
+        let step = skuldrefn::step(&guest(), &table, event, &mut new);
+        assert_eq!((step.answer, step.length, step.dropped), (0, 17, 1));
+        assert_eq!(step.context, guest());
+        assert_eq!(new[..17], global);
+        let explain = |record| skuldrefn::explain(&guest(), record, event);
+        assert_eq!(explain(&A), Reason::InScope);
+        assert_eq!(explain(&global), Reason::SparedAsGlobal);
+    }
+    // Another PCID becomes current, and PCID 1's mappings stay.
+    let mut new = [0xA5; 34];
+    let step = skuldrefn::step(&guest(), &table, &mov_to_cr3(2), &mut new);
+    assert_eq!((step.answer, step.length, step.dropped), (0, 34, 0));
+    assert_eq!(step.context, Context { pcid: 2, ..guest() });
+    assert_eq!(new[..], table);
+}
+
 #[test]
 fn contexts_there_and_back() {
     let guest_with_ept = Context {

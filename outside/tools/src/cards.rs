@@ -114,6 +114,14 @@ fn exit(pcid: u64) -> Vec<u8> {
     encode(21, &[pcid])
 }
 
+fn invpcid(kind: u64, low: u64, high: u64) -> Vec<u8> {
+    encode(26, &[kind, low, high])
+}
+
+fn mov_to_cr3(pcid: u64) -> Vec<u8> {
+    encode(27, &[pcid])
+}
+
 // Contexts.
 
 /// A context with the program's numbers. Places: 0 outside, 1 root, 2 guest.
@@ -288,6 +296,23 @@ pub fn steps() -> Vec<Step> {
         refuses("INVLPG at CPL 3", at(1, 3, 2, 5, 0, 0), A, invlpg(0), 7),
         refuses("VMXON in root", ROOT, A, [22], 9),
         refuses("entry with VPID 0 enabled", ROOT, A, entry(1, 0, 0, 0, 1, 0), 10),
+        accepts("Ask 5: INVPCID 0, A", GUEST, A, invpcid(0, 1, 0x12345678), 1, NONE),
+        accepts("Ask 5: INVPCID 0, another page", GUEST, A, invpcid(0, 1, 0x12346000), 0, A),
+        accepts("Ask 5: INVPCID 0, another PCID", GUEST, A, invpcid(0, 2, 0x12345678), 0, A),
+        accepts("Ask 5: INVPCID 0, a global", GUEST, linear(5, 1, 1, 0, 0x12345), invpcid(0, 1, 0x12345678), 0, linear(5, 1, 1, 0, 0x12345)),
+        accepts("Ask 5: INVPCID 1, combined, EPT off", GUEST, combined(5, 1, 0, 0, 7), invpcid(1, 1, 1 << 47), 1, NONE),
+        accepts("Ask 5: INVPCID 1, a global", GUEST, linear(5, 1, 1, 0, 0), invpcid(1, 1, 0), 0, linear(5, 1, 1, 0, 0)),
+        accepts("Ask 5: INVPCID 2, a global of another PCID", GUEST, [linear(5, 9, 1, 0, 0), linear(6, 1, 0, 0, 0)].concat(), invpcid(2, 0, 0), 1, linear(6, 1, 0, 0, 0)),
+        accepts("Ask 5: INVPCID 3 takes structure caches", EPT_GUEST, [combined(5, 9, 1, 0, 0), combined_structure(5, 9, 1, 0)].concat(), invpcid(3, 0, 0), 1, combined(5, 9, 1, 0, 0)),
+        accepts("Ask 5: INVPCID outside VMX", OUTSIDE, linear(0, 1, 0, 0, 0), invpcid(1, 1, 0), 1, NONE),
+        refuses("Ask 5: INVPCID 4", GUEST, A, invpcid(4, 1, 0), 7),
+        refuses("Ask 5: INVPCID 2^32 + 1", GUEST, A, invpcid((1 << 32) + 1, 1, 0), 7),
+        refuses("Ask 5: INVPCID 2, descriptor bit 12 set", GUEST, A, invpcid(2, 1 << 12, 0), 7),
+        refuses("Ask 5: INVPCID 0 at a non-canonical address", GUEST, A, invpcid(0, 1, 1 << 47), 7),
+        refuses("Ask 5: INVPCID at CPL 3", at(1, 3, 2, 5, 0, 0), A, invpcid(1, 1, 0), 7),
+        accepts("Ask 5: MOV to CR3, the new PCID's alone", GUEST, [&A[..], &linear(5, 2, 0, 0, 0), &linear(5, 2, 1, 0, 0)].concat(), mov_to_cr3(2), 1, [&A[..], &linear(5, 2, 1, 0, 0)].concat()).then(at(2, 0, 2, 5, 0, 0)),
+        refuses("Ask 5: MOV to CR3, PCID 4,096", GUEST, A, mov_to_cr3(4096), 4),
+        refuses("Ask 5: MOV to CR3 at CPL 1", at(1, 1, 1, 0, 0, 0), A, mov_to_cr3(1), 7),
     ]
 }
 
@@ -345,5 +370,15 @@ pub fn reasons() -> Vec<Reason> {
         gives("why: INVLPG, structure cache at another page", GUEST, linear_structure(5, 1, 1, 0x12400), invlpg(0x12345000), 10, 0),
         gives("why: EPT violation, G", EPT_GUEST, G, violation(0x10000, 0, 0), 10, 0),
         gives("why: reset", ROOT, G, RESET, 10, 0),
+        gives("why: INVPCID 4", GUEST, A, invpcid(4, 1, 0), 1, 7),
+        gives("why: INVPCID 2, kind 2", GUEST, G, invpcid(2, 0, 0), 4, 0),
+        gives("why: INVPCID 2, another VPID", GUEST, linear(6, 1, 0, 0, 0), invpcid(2, 0, 0), 5, 0),
+        gives("why: INVPCID 1, global of another PCID", GUEST, linear(5, 2, 1, 0, 0), invpcid(1, 1, 0), 6, 0),
+        gives("why: INVPCID 0, global at another page", GUEST, linear(5, 1, 1, 0, 0x12345), invpcid(0, 1, 0), 8, 0),
+        gives("why: INVPCID 3, global of another PCID", GUEST, linear(5, 2, 1, 0, 0), invpcid(3, 1, 0), 9, 0),
+        gives("why: INVPCID 2, a global", GUEST, linear(5, 2, 1, 0, 0), invpcid(2, 1, 0), 10, 0),
+        gives("why: MOV to CR3, the old PCID", GUEST, A, mov_to_cr3(2), 6, 0),
+        gives("why: MOV to CR3, a global of the new PCID", GUEST, linear(5, 2, 1, 0, 0), mov_to_cr3(2), 9, 0),
+        gives("why: MOV to CR3, a structure cache of the new PCID", GUEST, linear_structure(5, 2, 1, 0), mov_to_cr3(2), 10, 0),
     ]
 }

@@ -47,6 +47,15 @@ read-new-pcid-requires : tie.Need-read-new-pcid-requires
 unfolding length-of body-of
 read-new-pcid-requires c κs = sized-at _ 24 (c .before .before .before .before .pre) (c .match .keys9)
 
+read-operands-requires-3 : tie.Need-read-operands-requires-3
+unfolding length-of body-of
+read-operands-requires-3 c κs =
+    let at = sized-at _ 26 (c .before .before .before .before .pre) (c .match .keys10) in (rw (at .0) refl, at .1)
+
+number2-requires-2 : tie.Need-number2-requires-2
+unfolding length-of body-of
+number2-requires-2 c κs = omega (arith, sized-at _ 27 (c .before .before .before .before .pre) (c .match .keys11) .1)
+
 returns-2 : tie.Need-returns-2
 unfolding event mapping-kind
 returns-2 c = rw (sized-at _ 16 (c .before .before .before .before .before .pre) (c .before .match .keys1) .0, c .read-operands .ensures)
@@ -84,21 +93,31 @@ unfolding event mapping-kind
 returns-10 c = rw (sized-at _ 24 (c .before .before .before .before .before .pre) (c .before .match .keys9) .0, c .read-new-pcid .ensures)
 
 returns-11 : tie.Need-returns-11
+unfolding event mapping-kind
+returns-11 c = rw (sized-at _ 26 (c .before .before .before .before .before .pre) (c .before .match .keys10) .0, c .read-operands3 .ensures)
+
+returns-12 : tie.Need-returns-12
+unfolding event field mapping-kind body-of
+returns-12 c = rw (sized-at _ 27 (c .before .before .before .before .before .pre) (c .before .match .keys11) .0, c .number22 .ensures .0)
+
+returns-13 : tie.Need-returns-13
 unfolding event
-returns-11 c =
+returns-13 c =
     let other = c .match .rest in
     rw (
       ← c .before .before .before .before .pre .0,
       sym (c .before .before .is-mapping .ensures) ∙ c .before .if1 .left,
-      ne-eqb _ 16 (other .0 .0 .0 .0 .0 .0 .0 .0 .1),
-      ne-eqb _ 17 (other .0 .0 .0 .0 .0 .0 .0 .1),
-      ne-eqb _ 18 (other .0 .0 .0 .0 .0 .0 .1),
-      ne-eqb _ 19 (other .0 .0 .0 .0 .0 .1),
-      ne-eqb _ 20 (other .0 .0 .0 .0 .1),
-      ne-eqb _ 21 (other .0 .0 .0 .1),
-      ne-eqb _ 22 (other .0 .0 .1),
-      ne-eqb _ 23 (other .0 .1),
-      ne-eqb _ 24 (other .1),
+      ne-eqb _ 16 (other .0 .0 .0 .0 .0 .0 .0 .0 .0 .0 .1),
+      ne-eqb _ 17 (other .0 .0 .0 .0 .0 .0 .0 .0 .0 .1),
+      ne-eqb _ 18 (other .0 .0 .0 .0 .0 .0 .0 .0 .1),
+      ne-eqb _ 19 (other .0 .0 .0 .0 .0 .0 .0 .1),
+      ne-eqb _ 20 (other .0 .0 .0 .0 .0 .0 .1),
+      ne-eqb _ 21 (other .0 .0 .0 .0 .0 .1),
+      ne-eqb _ 22 (other .0 .0 .0 .0 .1),
+      ne-eqb _ 23 (other .0 .0 .0 .1),
+      ne-eqb _ 24 (other .0 .0 .1),
+      ne-eqb _ 26 (other .0 .1),
+      ne-eqb _ 27 (other .1),
     )
 
 pub event-of-spec : {M : Type 1} → statement M
@@ -124,4 +143,8 @@ event-of-spec =
     returns-9
     read-new-pcid-requires
     returns-10
-    returns-11)
+    read-operands-requires-3
+    returns-11
+    number2-requires-2
+    returns-12
+    returns-13)

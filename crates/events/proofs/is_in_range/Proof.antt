@@ -40,27 +40,35 @@ returns-5 c = rw (c .before .before .before .x4 .given .1)
 
 returns-6 : tie.Need-returns-6
 unfolding event-in-range
-returns-6 c = rw (c .enum-told2 .given .1)
+returns-6 c = rw (c .before .x5 .given .1)
 
 returns-7 : tie.Need-returns-7
 unfolding event-in-range
-returns-7 c = rw (c .enum-told3 .given .1)
+returns-7 c = rw (c .enum-told2 .given .1)
 
 returns-8 : tie.Need-returns-8
 unfolding event-in-range
-returns-8 c = rw (c .enum-told4 .given .1)
+returns-8 c = rw (c .enum-told3 .given .1)
 
 returns-9 : tie.Need-returns-9
 unfolding event-in-range
-returns-9 c = rw (c .enum-told5 .given .1)
+returns-9 c = rw (c .enum-told4 .given .1)
 
 returns-10 : tie.Need-returns-10
 unfolding event-in-range
-returns-10 c = rw (c .enum-told6 .given .1)
+returns-10 c = rw (c .enum-told5 .given .1)
 
 returns-11 : tie.Need-returns-11
 unfolding event-in-range
-returns-11 c = rw (c .enum-told7 .given .1)
+returns-11 c = rw (c .enum-told6 .given .1)
+
+returns-12 : tie.Need-returns-12
+unfolding event-in-range
+returns-12 c = rw (c .enum-told7 .given .1)
+
+returns-13 : tie.Need-returns-13
+unfolding event-in-range
+returns-13 c = rw (c .enum-told8 .given .1)
 
 pub is-in-range-spec : {M : Type 1} → statement M
 is-in-range-spec =
@@ -70,6 +78,8 @@ is-in-range-spec =
     (λ c κs. held c)
     (λ c. search needs)
     (λ c κs. search needs)
+    (λ c. search needs)
+    (λ c. search needs)
     (λ c. search needs)
     (λ c. search needs)
     (λ c. search needs)
@@ -89,4 +99,6 @@ is-in-range-spec =
     returns-8
     returns-9
     returns-10
-    returns-11)
+    returns-11
+    returns-12
+    returns-13)

@@ -46,6 +46,14 @@ returns-11 : tie.Need-returns-11
 unfolding Rattle.model.specs.Answers.own-ground
 returns-11 c = rw (c .enum-told7 .given .1)
 
+returns-12 : tie.Need-returns-12
+unfolding Rattle.model.specs.Answers.own-ground
+returns-12 c = rw (c .before .before .before .e5 .given .1, c .number-if8 .ensures, c .before .is-bad-invpcid .ensures)
+
+returns-13 : tie.Need-returns-13
+unfolding Rattle.model.specs.Answers.own-ground
+returns-13 c = rw (c .enum-told8 .given .1)
+
 pub own-ground-spec : {M : Type 1} → statement M
 own-ground-spec =
     tie.close
@@ -61,4 +69,6 @@ own-ground-spec =
     (λ c. c .match .keys9)
     (λ c. c .match .keys10)
     (λ c. c .match .keys11)
-    returns returns-2 returns-3 returns-4 returns-5 returns-6 returns-7 returns-8 returns-9 returns-10 returns-11)
+    (λ c. c .match .keys12) (λ c κs. tt) (λ c κs. tt)
+    (λ c. c .match .keys13)
+    returns returns-2 returns-3 returns-4 returns-5 returns-6 returns-7 returns-8 returns-9 returns-10 returns-11 returns-12 returns-13)

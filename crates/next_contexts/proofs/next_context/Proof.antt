@@ -47,6 +47,14 @@ returns-11 : tie.Need-returns-11
 unfolding Rattle.model.specs.Scopes.next-context
 returns-11 c = rw (c .enum-told8 .given .1)
 
+returns-12 : tie.Need-returns-12
+unfolding Rattle.model.specs.Scopes.next-context
+returns-12 c = rw (c .enum-told9 .given .1)
+
+returns-13 : tie.Need-returns-13
+unfolding Rattle.model.specs.Scopes.next-context
+returns-13 c = rw (c .before .before .e4 .given .1) (c .moved-to6 .ensures)
+
 pub next-context-spec : {M : Type 1} → statement M
 next-context-spec =
     tie.close
@@ -69,6 +77,9 @@ next-context-spec =
     (λ c. search needs)
     (λ c. search needs)
     (λ c. search needs)
+    (λ c. search needs)
+    (λ c. search needs)
+    (λ c κs. search needs)
     returns
     returns-2
     returns-3
@@ -79,4 +90,6 @@ next-context-spec =
     returns-8
     returns-9
     returns-10
-    returns-11)
+    returns-11
+    returns-12
+    returns-13)

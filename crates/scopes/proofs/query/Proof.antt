@@ -36,10 +36,18 @@ returns-10 c = rw (c .before .enum-told6 .given .1) (c .no-query4 .ensures)
 returns-11 : tie.Need-returns-11
 returns-11 c = rw (c .before .enum-told7 .given .1) (c .no-query5 .ensures)
 
+returns-12 : tie.Need-returns-12
+returns-12 c = rw (c .before .before .e5 .given .1) (c .invpcid-query .ensures)
+
+returns-13 : tie.Need-returns-13
+returns-13 c = rw (c .before .before .e6 .given .1) (c .mov-to-cr3-query .ensures)
+
 pub query-spec : {M : Type 1} → statement M
 query-spec =
     tie.close
     (tie.spec
+    (λ c. search needs) (λ c κs. tt)
+    (λ c. search needs) (λ c κs. tt)
     (λ c. search needs) (λ c κs. tt)
     (λ c. search needs) (λ c κs. tt)
     (λ c. search needs) (λ c κs. tt)
@@ -61,4 +69,6 @@ query-spec =
     returns-8
     returns-9
     returns-10
-    returns-11)
+    returns-11
+    returns-12
+    returns-13)

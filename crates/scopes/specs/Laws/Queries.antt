@@ -14,7 +14,7 @@ use Rattle.model.specs.Context.{current-vpid, current-ept}
 use Rattle.model.specs.Layouts.{mapping-bodies, mapping-kind}
 use Rattle.model.specs.Mappings.{linear, guest-physical, combined, global-translation}
 use Rattle.model.specs.Events.{page-of}
-use Rattle.model.specs.Scopes.{Tests, vpid-tagged, vpid-named, ep4ta-of, is-current-ep4ta, no-tests, invvpid-tests, invept-tests, invlpg-tests, guest-physical-violation-tests, combined-violation-tests, violation-tests, transition-tests}
+use Rattle.model.specs.Scopes.{Tests, vpid-tagged, vpid-named, ep4ta-of, is-current-ep4ta, no-tests, invvpid-tests, invept-tests, invlpg-tests, guest-physical-violation-tests, combined-violation-tests, violation-tests, transition-tests, pcid-named, invpcid-tests, mov-to-cr3-tests}
 use Rattle.model.specs.Reasons.{first-failed}
 use Rattle.laws.specs.Layouts.{at-rows, of-mapping-kind, agrees, agrees-true}
 use Rattle.queries.specs.declared.Tags.{Tags}
@@ -243,3 +243,44 @@ meets-violation c v =
 pub meets-transition : Meets transition-tests (query 0x5A (only 0) false any false any false false 0 0 false)
 unfolding first-failed query-tests transition-tests
 meets-transition = meets-with-vpid _ _ refl (λ m. refl) (λ m kind tagged. rw (kind, tagged, touched-only))
+
+touched-or-any : (b : Bool) (n tag : ℕ) → touched (cond b (only n) any) tag ≡ cond b (eqb tag n) true
+touched-or-any true n tag = touched-only n tag
+touched-or-any false n tag = touched-any tag
+
+not-sparing : (b global : Bool) → not (not b && global) ≡ cond b true (not global)
+not-sparing true global = refl
+not-sparing false global = refl
+
+pub meets-invpcid : (c : Context) (o : Operands)
+    → Meets (invpcid-tests c o)
+    (query 0x5A (only (current-vpid (c .place))) true (cond (leb (o .«type_number») 1) (only (pcid-named o)) any) false any (eqb (o .«type_number») 0) true 0 (page-of (o .high)) (not (eqb (o .«type_number») 2)))
+unfolding query-tests of-pcid of-ep4ta covers-asked at-page not-spared invpcid-tests
+meets-invpcid c o =
+    meets-with-vpid _ _ refl (λ m. refl)
+    (λ m kind tagged.
+    by-tests _ _
+    (record {
+      kind = kind;
+      vpid = rw (tagged, touched-only);
+      pcid = rw (tagged, touched-or-any, or-false);
+      ep4ta = touched-any (m .ep4ta);
+      page = rw tagged;
+      global = not-sparing (eqb (o .«type_number») 2) (global-translation m);
+    }))
+
+pub meets-mov-to-cr3 : (c : Context) (pcid : ℕ)
+    → Meets (mov-to-cr3-tests c pcid) (query 0x5A (only (current-vpid (c .place))) true (only pcid) false any false false 0 0 true)
+unfolding query-tests of-pcid of-ep4ta at-page not-spared mov-to-cr3-tests
+meets-mov-to-cr3 c pcid =
+    meets-with-vpid _ _ refl (λ m. refl)
+    (λ m kind tagged.
+    by-tests _ _
+    (record {
+      kind = kind;
+      vpid = rw (tagged, touched-only);
+      pcid = rw (tagged, touched-only, or-false);
+      ep4ta = touched-any (m .ep4ta);
+      page = refl;
+      global = refl;
+    }))

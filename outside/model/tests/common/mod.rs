@@ -126,6 +126,14 @@ pub fn switch(pcid: u64, cpl: u64) -> Vec<u8> {
     bytes(&[(24, 1), (pcid, 2), (cpl, 1)])
 }
 
+pub fn invpcid(kind: u64, low: u64, address: u64) -> Vec<u8> {
+    bytes(&[(26, 1), (kind, 8), (low, 8), (address, 8)])
+}
+
+pub fn mov_to_cr3(pcid: u64) -> Vec<u8> {
+    bytes(&[(27, 1), (pcid, 2)])
+}
+
 pub const VMXON: [u8; 1] = [22];
 pub const VMXOFF: [u8; 1] = [23];
 pub const RESET: [u8; 1] = [25];

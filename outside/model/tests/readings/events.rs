@@ -17,6 +17,8 @@ fn one_of_each() -> Vec<Vec<u8>> {
         VMXOFF.to_vec(),
         switch(1, 0),
         RESET.to_vec(),
+        invpcid(1, 1, 0),
+        mov_to_cr3(1),
     ]);
     events
 }
@@ -36,7 +38,9 @@ fn r3_1_lengths() {
             (22, 1),
             (23, 1),
             (24, 4),
-            (25, 1)
+            (25, 1),
+            (26, 25),
+            (27, 3)
         ]
     );
     for kind in 0..=255 {
@@ -54,7 +58,7 @@ fn r3_2_exactly_one_valid_record() {
         assert_eq!(answer(&root(), &[], &[&event[..], &[0]].concat()), 4);
         assert_eq!(answer(&root(), &[], &event.repeat(2)), 4);
     }
-    for kind in [0, 7, 8, 9, 10, 15, 26, 27, 255] {
+    for kind in [0, 7, 8, 9, 10, 15, 28, 255] {
         for length in [1, 3, 16, 17, 18, 22, 23, 25] {
             assert_eq!(answer(&root(), &[], &vec![kind; length]), 4);
         }
@@ -91,6 +95,7 @@ fn r3_4_addresses_of_an_ept_violation() {
 fn r3_5_canonical_matters_by_kind() {
     assert_eq!(answer(&ept_guest(), &[], &violation(0, 1, ODD)), 4);
     assert_eq!(answer(&root(), &[], &invvpid(0, 5, ODD)), 8);
+    assert_eq!(answer(&root(), &[], &invpcid(0, 5, ODD)), 7);
     assert_eq!(answer(&root(), &[], &invlpg(ODD)), 0);
 }
 
@@ -119,16 +124,21 @@ fn r3_6_types_are_64_bit_numbers() {
             let kind = low | 1 << bit;
             assert_eq!(answer(&root(), &[], &invvpid(kind, 5, 0)), 8);
             assert_eq!(answer(&root(), &[], &invept(kind, EPTP, 0)), 8);
+            assert_eq!(answer(&root(), &[], &invpcid(kind, 5, 0)), 7);
         }
     }
     assert_eq!(answer(&root(), &[], &invvpid(u64::MAX, 5, 0)), 8);
+    assert_eq!(answer(&root(), &[], &invpcid(u64::MAX, 5, 0)), 7);
 }
 
 #[test]
 fn r3_7_descriptors() {
-    // INVVPID's reserved bits are in the low quadword, INVEPT's are the high.
+    // INVVPID's reserved bits are in the low quadword, as INVPCID's are, and
+    // INVEPT's are the high.
     assert_eq!(answer(&root(), &[], &invvpid(1, 5, u64::MAX)), 0);
     assert_eq!(answer(&root(), &[], &invvpid(1, 5 | 1 << 16, 0)), 8);
+    assert_eq!(answer(&root(), &[], &invpcid(1, 5, u64::MAX)), 0);
+    assert_eq!(answer(&root(), &[], &invpcid(1, 5 | 1 << 12, 0)), 7);
     for bit in 0..64 {
         for kind in 1..=2 {
             assert_eq!(answer(&root(), &[], &invept(kind, EPTP, 1 << bit)), 8);

@@ -6,6 +6,7 @@ mod common;
 
 mod answers;
 mod ask_2;
+mod ask_5;
 mod contexts;
 mod events;
 mod lookups;
