@@ -126,6 +126,21 @@ enum {
                                     a creation */
 };
 
+/*
+ * The rules of an EPTP. With answer 8 of INVEPT and 10 of VM entry the first that
+ * the EPTP breaks is told, unless another ground goes before the EPTP: the type or
+ * descriptor bits 127:64 of INVEPT, the VPID of VM entry.
+ */
+enum {
+    SKULDREFN_RULE_MEMORY_TYPE = 1,        /* bits 2:0 are 0, with capability
+                                              bit 8, or 6, with bit 14 */
+    SKULDREFN_RULE_WALK_LENGTH = 2,        /* bits 5:3 are 3, with bit 6 */
+    SKULDREFN_RULE_ACCESSED_AND_DIRTY = 3, /* bit 6 is 0, or capability bit 21
+                                              set */
+    SKULDREFN_RULE_BITS_11_7 = 4,          /* they are 0 */
+    SKULDREFN_RULE_ABOVE_WIDTH = 5         /* bits 63:N are 0 */
+};
+
 /* The numbers of a place. */
 enum {
     SKULDREFN_OUTSIDE = 0, /* outside VMX */
@@ -153,6 +168,8 @@ typedef struct {
 /* What a step reports. */
 typedef struct {
     uint64_t answer;           /* 0 to 12 */
+    uint64_t rule;             /* the rule that the EPTP breaks, if that is the
+                                  ground of answer 8 or 10, else 0 */
     skuldrefn_context context; /* the context after the event */
     size_t length;             /* the new table's length in bytes */
     size_t dropped;            /* how many records went */
@@ -170,7 +187,8 @@ typedef struct {
  * With answer 0 the new table is in new_table[0 .. length - 1], and the
  * context is the one after the event; fields that its place lacks are 0. With
  * any other answer nothing is written, the context is handed back as it came,
- * length and dropped are 0, and the old table remains in force.
+ * length and dropped are 0, and the old table remains in force. rule is 0 but for
+ * a bad EPTP.
  */
 skuldrefn_step_result skuldrefn_step(
     skuldrefn_context context,
@@ -228,6 +246,7 @@ enum {
 typedef struct {
     uint64_t reason; /* 1 to 10 */
     uint64_t answer; /* with reason 1 the step's answer, else 0 */
+    uint64_t rule;   /* with reason 1 the step's rule, else 0 */
 } skuldrefn_reason;
 
 /*

@@ -2,9 +2,11 @@
 use model::Context;
 use model::Event;
 use model::Place;
+ghost use mathlib.Core.Bool.{cond};
+ghost use mathlib.Core.List.{[], _∷_};
 ghost use mathlib.Core.Path.{_≡_};
 ghost use Rattle.model.specs.Context.{outside};
-ghost use Rattle.model.specs.Answers.{kind-number, invalid-opcode, exits, general-protection, event-answer};
+ghost use Rattle.model.specs.Answers.{kind-number, invalid-opcode, exits, general-protection, event-answer, among, own-rule};
 
 // The place is outside VMX operation.
 fn is_outside(place: Place) -> bool
@@ -88,4 +90,14 @@ pub fn answer_to_event(c: Context, e: Event) -> u64
         return 7;
     }
     grounds::own_ground(c, e)
+}
+
+// The rule of the EPTP that goes with an answer to the event: where it is the ground of 8 or 10, else 0.
+pub fn rule_with_answer(c: Context, e: Event, answer: u64) -> u64
+    ensures { λ r. ⌜ r ≡ cond (among answer (8 ∷ 10 ∷ [])) (own-rule c e) 0 ⌝ }
+{
+    if (answer == 8) | (answer == 10) {
+        return grounds::own_rule(c, e);
+    }
+    0
 }

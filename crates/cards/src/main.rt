@@ -1,8 +1,8 @@
 // The cards of document 01, its five mistakes and the reasons of document 02, run on the code. They come
 // from standard input, the file stdin, and what is expected, the file stdout, was written from the
-// documents; outside/tools has the format. Each line is a card's name, then of a step the answer, the
-// dropped count, the length, the context's eight numbers and the new buffer, which held ee in every byte;
-// of a lookup the answer, the start, the length and the part; of a reason its number and its answer.
+// documents; outside/tools has the format. Each line is a card's name, then of a step the answer, the rule
+// of the EPTP, the dropped count, the length, the context's eight numbers and the new buffer, which held ee in every byte;
+// of a lookup the answer, the start, the length and the part; of a reason its number, its answer and its rule.
 use flat_contexts::FlatContext;
 use libc::STDIN_FILENO;
 use libc::STDOUT_FILENO;
@@ -62,6 +62,7 @@ fn step(c: FlatContext, table: &[u8], event: &[u8]) {
     let mut new = [238u8; 64];
     let s = skuldrefn::skuldrefn_step(c, table, event, &mut new);
     write_number(s.answer);
+    write_number(s.rule);
     write_number(s.dropped as u64);
     write_number(s.length as u64);
     let after = s.context;
@@ -92,6 +93,7 @@ fn explain(c: FlatContext, bytes: &[u8], event: &[u8]) {
     let why = skuldrefn::skuldrefn_explain(c, bytes, event);
     write_number(why.reason);
     write_number(why.answer);
+    write_number(why.rule);
 }
 
 // Runs the card at the front and answers how many bytes it takes, or 0 where no whole card is left.

@@ -1,4 +1,5 @@
-// The ground that is an event's own: 7 to 11, of its operands, its place, its fields or its tags.
+// The ground that is an event's own: 7 to 11, of its operands, its place, its fields or its tags; and which rule of an
+// EPTP it is.
 use model::Context;
 use model::Entry;
 use model::Ept;
@@ -11,7 +12,7 @@ ghost use mathlib.Core.Path.{_≡_};
 ghost use Prim.Native.Nat.{_/_, _^_};
 ghost use lib.Dec.{eqb};
 ghost use Rattle.model.specs.Context.{in-root};
-ghost use Rattle.model.specs.Answers.{good-eptp, invvpid-supported, bad-invvpid, invept-supported, bad-invept, bad-invpcid, ept-in-use, bad-entry, creatable, own-ground};
+ghost use Rattle.model.specs.Answers.{eptp-rule, good-eptp, invvpid-supported, bad-invvpid, invept-supported, bad-invept, bad-invpcid, ept-in-use, bad-entry, creatable, own-ground, own-rule};
 
 // Bits 63 to N of an EPTP are zero.
 fn is_within_width(eptp: u64, width: u64) -> bool
@@ -23,18 +24,37 @@ fn is_within_width(eptp: u64, width: u64) -> bool
     (eptp >> width) == 0
 }
 
-// The EPTP is good under the context's capability and width.
-fn is_good_eptp(c: Context, eptp: u64) -> bool
-    ensures { λ r. ⌜ r ≡ good-eptp c eptp ⌝ }
+// The first rule that an EPTP breaks under the context's capability and width: 1 memory type, 2 walk length,
+// 3 accessed and dirty flag, 4 bits 11:7, 5 bits above the width; 0 if it is good.
+fn eptp_rule(c: Context, eptp: u64) -> u64
+    ensures { λ r. ⌜ r ≡ eptp-rule c eptp ⌝ }
 {
     let capability = c.capability;
     let memory_type = eptp % 8;
-    (((memory_type == 0) & ((capability >> 8) % 2 == 1))
-        | ((memory_type == 6) & ((capability >> 14) % 2 == 1)))
-        & (((eptp >> 3) % 8 == 3) & ((capability >> 6) % 2 == 1))
-        & (!((eptp >> 6) % 2 == 1) | ((capability >> 21) % 2 == 1))
-        & ((eptp >> 7) % 32 == 0)
-        & is_within_width(eptp, c.width)
+    if !(((memory_type == 0) & ((capability >> 8) % 2 == 1))
+        | ((memory_type == 6) & ((capability >> 14) % 2 == 1))) {
+        return 1;
+    }
+    if !(((eptp >> 3) % 8 == 3) & ((capability >> 6) % 2 == 1)) {
+        return 2;
+    }
+    if !(!((eptp >> 6) % 2 == 1) | ((capability >> 21) % 2 == 1)) {
+        return 3;
+    }
+    if !((eptp >> 7) % 32 == 0) {
+        return 4;
+    }
+    if !is_within_width(eptp, c.width) {
+        return 5;
+    }
+    0
+}
+
+// The EPTP is good: it breaks no rule.
+fn is_good_eptp(c: Context, eptp: u64) -> bool
+    ensures { λ r. ⌜ r ≡ good-eptp c eptp ⌝ }
+{
+    eptp_rule(c, eptp) == 0
 }
 
 // The capability has this INVVPID type.
@@ -166,6 +186,48 @@ pub fn own_ground(c: Context, e: Event) -> u64
         Event::NewPcid(_) => 0,
         Event::Reset => 0,
         Event::Invpcid(o) => number_if(is_bad_invpcid(o), 7),
+        Event::MovToCr3(_) => 0,
+    }
+}
+
+// The rule that the EPTP of an INVEPT breaks, where its type and its descriptor's upper half pass.
+fn invept_rule(c: Context, o: Operands) -> u64
+    ensures { λ r. ⌜ r ≡ own-rule c (Event.Invept o) ⌝ }
+{
+    let type_number = o.type_number;
+    if is_invept_supported(c.capability, type_number) & (o.high == 0) & (type_number == 1) {
+        return eptp_rule(c, o.low);
+    }
+    0
+}
+
+// The rule that the EPTP of a VM entry breaks, where its VPID passes.
+fn entry_rule(c: Context, n: Entry) -> u64
+    ensures { λ r. ⌜ r ≡ own-rule c (Event.Entry n) ⌝ }
+{
+    if !((n.vpids == 1) & (n.vpid == 0)) & (n.ept == 1) {
+        return eptp_rule(c, n.eptp);
+    }
+    0
+}
+
+// The rule that the event's EPTP breaks where it comes to that, or 0: of an INVEPT or a VM entry.
+pub fn own_rule(c: Context, e: Event) -> u64
+    ensures { λ r. ⌜ r ≡ own-rule c e ⌝ }
+{
+    match e {
+        Event::Creation(_) => 0,
+        Event::Invvpid(_) => 0,
+        Event::Invept(o) => invept_rule(c, o),
+        Event::Invlpg(_) => 0,
+        Event::EptViolation(_) => 0,
+        Event::Entry(n) => entry_rule(c, n),
+        Event::Exit(_) => 0,
+        Event::Vmxon => 0,
+        Event::Vmxoff => 0,
+        Event::NewPcid(_) => 0,
+        Event::Reset => 0,
+        Event::Invpcid(_) => 0,
         Event::MovToCr3(_) => 0,
     }
 }

@@ -11,4 +11,5 @@ pub mod Answers
 pub mod Steps
 pub mod Reasons
 pub mod Entries
+pub mod Rules
 pub mod Lookups

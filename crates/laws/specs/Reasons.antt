@@ -20,7 +20,7 @@ use Rattle.model.specs.Mappings.{mapping, record-length}
 use Rattle.model.specs.Tables.{limit}
 use Rattle.model.specs.Events.{event, valid-event}
 use Rattle.model.specs.Scopes.{Tests, passed, asked, has-scope, scope}
-use Rattle.model.specs.Answers.{first, created, no-room, table-grounds, event-answer, answer}
+use Rattle.model.specs.Answers.{first, created, no-room, table-grounds, event-answer, rule-with, answer}
 use Rattle.model.specs.Steps.{dropped-count, accepted-step, refused-step, stepped}
 use Rattle.model.specs.Reasons.{unless, first-failed, drops, reason, one-record, explained-answer, explanation}
 use Rattle.laws.specs.Layouts.{length-of-mapping-le}
@@ -114,7 +114,7 @@ length-created-valid e v = go (mapping-kind (kind-of e)) refl
 
 module _ (c : Context) (r e : List ℕ) where
   -- a refusal, and no refusal
-  pub explanation-refused : (n : ℕ) → explained-answer c r e ≡ n → (n ≡ 0 → ⊥) → Refused n ≡ explanation c r e
+  pub explanation-refused : (n : ℕ) → explained-answer c r e ≡ n → (n ≡ 0 → ⊥) → Refused n (rule-with c e n) ≡ explanation c r e
   unfolding explanation
   explanation-refused n is some = rw (is, ne-eqb n 0 some)
 
@@ -223,7 +223,7 @@ module _ (c : Context) (r e : List ℕ) where
   in-scope-dropped h = go (eqb (explained-answer c r e) 0) refl h
     where
       go : (b : Bool) → eqb (explained-answer c r e) 0 ≡ b
-          → cond b (Accepted (reason c (event e) (mapping r))) (Refused (explained-answer c r e)) ≡ Accepted InScope
+          → cond b (Accepted (reason c (event e) (mapping r))) (Refused (explained-answer c r e) (rule-with c e (explained-answer c r e))) ≡ Accepted InScope
           → (one-record r ≡ true) × (stepped c r e limit .dropped ≡ 1)
       go true zero k =
           let explained = eqb-true (explained-answer c r e) 0 zero in

@@ -15,8 +15,8 @@ use Rattle.model.specs.Layouts.{kind-of, mapping-kind}
 use Rattle.model.specs.Tables.{limit, joined, records, whole, only}
 use Rattle.model.specs.Events.{event, valid-event}
 use Rattle.model.specs.Scopes.{next-context}
-use Rattle.model.specs.Answers.{first, created, no-room, table-grounds, answer}
-use Rattle.model.specs.Steps.{in-scope, new-table, dropped-count, accepted-step, refused-step, stepped, written}
+use Rattle.model.specs.Answers.{first, created, no-room, table-grounds, answer, rule-with}
+use Rattle.model.specs.Steps.{in-scope, new-table, dropped-count, accepted-step, refusal, refused-step, stepped, written}
 use Rattle.laws.specs.Lists.{Every, none, more, every-head, every-tail, every-append}
 use Rattle.laws.specs.Mappings.{Valid}
 use Rattle.laws.specs.Tables.{joined-append, joined-one, every-only, records-valid, records-joined, joined-whole, length-joined-only, length-joined-records}
@@ -113,7 +113,7 @@ unfolding stepped
 stepped-accepted c t e room h = rw h
 
 pub stepped-refused : (c : Context) (t e : List ℕ) (room : ℕ) → (answer c t e room ≡ 0 → ⊥)
-    → stepped c t e room ≡ refused-step (answer c t e room) c
+    → stepped c t e room ≡ refused-step (answer c t e room) c e
 unfolding stepped
 stepped-refused c t e room h = rw (ne-eqb (answer c t e room) 0 h)
 
@@ -126,11 +126,11 @@ stepped-answer c t e room = go (eqb (answer c t e room) 0) refl
     go false q = rw q
 
 -- what an accepted step hands back, field by field
-pub accepted-step-is : (c : Context) (t e : List ℕ) {r : Step} → r .answer ≡ 0 → r .context ≡ next-context c (event e)
+pub accepted-step-is : (c : Context) (t e : List ℕ) {r : Step} → r .answer ≡ 0 → r .rule ≡ 0 → r .context ≡ next-context c (event e)
     → r .length ≡ length (new-table c t e) → r .dropped ≡ dropped-count c t e → r ≡ accepted-step c t e
 unfolding accepted-step
-accepted-step-is c t e answer context length dropped =
-    λ i. record { answer = answer i; context = context i; length = length i; dropped = dropped i }
+accepted-step-is c t e answer rule context length dropped =
+    λ i. record { answer = answer i; rule = rule i; context = context i; length = length i; dropped = dropped i }
 
 -- a step and the buffer after it, by its answer
 module _ (c : Context) (t e b : List ℕ) where
@@ -139,9 +139,9 @@ module _ (c : Context) (t e b : List ℕ) where
   unfolding written
   step-accepted h told made = (told ∙ sym (stepped-accepted c t e (length b) h), made ∙ rw h)
 
-  pub step-refused : {n : ℕ} → answer c t e (length b) ≡ n → (n ≡ 0 → ⊥) → {r : Step} → r ≡ refused-step n c
+  pub step-refused : {n k : ℕ} → answer c t e (length b) ≡ n → (n ≡ 0 → ⊥) → k ≡ rule-with c e n → {r : Step} → r ≡ refusal n k c
       → (r ≡ stepped c t e (length b)) × (b ≡ written c t e b)
-  unfolding written
-  step-refused is some told =
+  unfolding written refused-step
+  step-refused is some rule told =
       let refused : answer c t e (length b) ≡ 0 → ⊥ = λ z. some (sym is ∙ z) in
-      (told ∙ rw (stepped-refused c t e (length b) refused, is), rw (ne-eqb (answer c t e (length b)) 0 refused))
+      (told ∙ rw (stepped-refused c t e (length b) refused, is, rule), rw (ne-eqb (answer c t e (length b)) 0 refused))

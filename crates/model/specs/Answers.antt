@@ -47,16 +47,45 @@ kind-number Reset = 25
 kind-number (Invpcid o) = 26
 kind-number (MovToCr3 pcid) = 27
 
+-- The five rules of an EPTP: its memory type, its walk length, its accessed and dirty flag, bits 11:7, and the bits
+-- above the width. An EPTP has 64 bits, so that 63:N are zero says that it is below 2^N.
+abbrev pub good-memory-type : Context → ℕ → Bool
+good-memory-type c eptp =
+    (eqb (bits 2 0 eptp) 0 && bit 8 (c .capability)) || (eqb (bits 2 0 eptp) 6 && bit 14 (c .capability))
+
+abbrev pub good-walk-length : Context → ℕ → Bool
+good-walk-length c eptp = eqb (bits 5 3 eptp) 3 && bit 6 (c .capability)
+
+abbrev pub good-dirty-flag : Context → ℕ → Bool
+good-dirty-flag c eptp = not (bit 6 eptp) || bit 21 (c .capability)
+
+abbrev pub good-bits-11-7 : ℕ → Bool
+good-bits-11-7 eptp = eqb (bits 11 7 eptp) 0
+
+abbrev pub good-width : Context → ℕ → Bool
+good-width c eptp = eqb (eptp / 2 ^ c .width) 0
+
 -- "An EPTP is good if bits 2:0 are 0 with capability bit 8 or 6 with bit 14; bits 5:3 are 3 with bit
--- 6; its bit 6 is clear or capability bit 21 set; bits 11:7 and 63:N are zero." An EPTP has 64 bits,
--- so that 63:N are zero says that it is below 2^N.
+-- 6; its bit 6 is clear or capability bit 21 set; bits 11:7 and 63:N are zero."
 unfoldable pub good-eptp : Context → ℕ → Bool
 good-eptp c eptp =
-    ((eqb (bits 2 0 eptp) 0 && bit 8 (c .capability)) || (eqb (bits 2 0 eptp) 6 && bit 14 (c .capability)))
-    && (eqb (bits 5 3 eptp) 3 && bit 6 (c .capability))
-    && (not (bit 6 eptp) || bit 21 (c .capability))
-    && eqb (bits 11 7 eptp) 0
-    && eqb (eptp / 2 ^ c .width) 0
+    good-memory-type c eptp
+    && good-walk-length c eptp
+    && good-dirty-flag c eptp
+    && good-bits-11-7 eptp
+    && good-width c eptp
+
+-- document 02, Ask 6: "the first failed rule: 1 memory type, 2 walk length, 3 accessed and dirty, 4 bits 11:7, 5 bits
+-- above the width; 0 if good"
+unfoldable pub eptp-rule : Context → ℕ → ℕ
+eptp-rule c eptp =
+    first
+    ((1, not (good-memory-type c eptp))
+    ∷ (2, not (good-walk-length c eptp))
+    ∷ (3, not (good-dirty-flag c eptp))
+    ∷ (4, not (good-bits-11-7 eptp))
+    ∷ (5, not (good-width c eptp))
+    ∷ [])
 
 -- the INVVPID types and their capability bits: "40, 41, 42, 43 for types 0 to 3"
 unfoldable pub invvpid-supported : ℕ → ℕ → Bool
@@ -152,6 +181,29 @@ own-ground c (NewPcid n) = 0
 own-ground c Reset = 0
 own-ground c (Invpcid o) = cond (bad-invpcid o) 7 0
 own-ground c (MovToCr3 pcid) = 0
+
+-- Ask 6: the rule that the EPTP of an event breaks where it comes to that, else 0. "For INVEPT the type and
+-- descriptor bits 127:64 are tested before the EPTP. A VM entry also refused for its VPID reports 0."
+unfoldable pub own-rule : Context → Event → ℕ
+own-rule c (Creation m) = 0
+own-rule c (Invvpid o) = 0
+own-rule c (Invept o) =
+    cond (invept-supported (c .capability) (o .«type_number») && eqb (o .high) 0 && eqb (o .«type_number») 1) (eptp-rule c (o .low)) 0
+own-rule c (Invlpg address) = 0
+own-rule c (EptViolation v) = 0
+own-rule c (Entry n) = cond (not (eqb (n .vpids) 1 && eqb (n .vpid) 0) && eqb (n .ept) 1) (eptp-rule c (n .eptp)) 0
+own-rule c (Exit pcid) = 0
+own-rule c Vmxon = 0
+own-rule c Vmxoff = 0
+own-rule c (NewPcid n) = 0
+own-rule c Reset = 0
+own-rule c (Invpcid o) = 0
+own-rule c (MovToCr3 pcid) = 0
+
+-- "INVEPT and VM entry pass it on as a second number in their result, 0 whenever the EPTP was not the ground": the
+-- rule that goes with an answer to an event
+unfoldable pub rule-with : Context → List ℕ → ℕ → ℕ
+rule-with c e answer = cond (among answer (8 ∷ 10 ∷ [])) (own-rule c (event e)) 0
 
 -- the bytes that an event adds to the table: a creation's own
 unfoldable pub created : List ℕ → List ℕ

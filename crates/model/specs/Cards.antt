@@ -22,10 +22,10 @@ use Rattle.model.specs.Mappings.{mapping, structure-cache, global-marked
 use Rattle.model.specs.Tables.{joined, cut, records-within, records, whole, only, count}
 use Rattle.model.specs.Events.{canonical, operands, violation, entry, new-pcid, event, event-in-range, valid-event}
 use Rattle.model.specs.Scopes.{invvpid-tests, invept-tests, invlpg-tests, guest-physical-violation-tests, combined-violation-tests, violation-tests, transition-tests, invpcid-tests, mov-to-cr3-tests, has-scope, scope, entered, next-context}
-use Rattle.model.specs.Answers.{first, good-eptp, invvpid-supported, bad-invvpid, invept-supported, bad-invept, bad-invpcid, invalid-opcode, exits, general-protection, bad-entry, creatable, own-ground, created, no-room, table-grounds, event-grounds, grounds, answer}
+use Rattle.model.specs.Answers.{first, good-eptp, eptp-rule, own-rule, rule-with, invvpid-supported, bad-invvpid, invept-supported, bad-invept, bad-invpcid, invalid-opcode, exits, general-protection, bad-entry, creatable, own-ground, created, no-room, table-grounds, event-grounds, grounds, answer}
 use Rattle.model.specs.Steps.{new-table, dropped-count, accepted-step, refused-step, stepped, written}
 use Rattle.model.specs.Lookups.{translates-linear, usable, usable-records, lookup-answer, lookup, start-of, lookup-start}
-use Rattle.model.specs.Reasons.{first-failed, reason, one-record, explained-answer, explanation, explanation-number, explanation-answer}
+use Rattle.model.specs.Reasons.{first-failed, reason, one-record, explained-answer, explanation, explanation-number, explanation-answer, explanation-rule}
 
 same : List ℕ → List ℕ → Bool
 same [] [] = true
@@ -132,6 +132,20 @@ A = 0x01 ∷ 0x05 ∷ 0x00 ∷ 0x01 ∷ 0x00 ∷ 0x00 ∷ 0x00 ∷ 0x45 ∷ 0x23
 
 G : List ℕ
 G = 0x02 ∷ 0x67 ∷ 0x45 ∷ 0x23 ∷ 0x01 ∷ 0x00 ∷ 0x00 ∷ 0x10 ∷ 0x00 ∷ 0x00 ∷ 0x00 ∷ 0x00 ∷ 0x20 ∷ 0x00 ∷ 0x00 ∷ 0x00 ∷ 0x00 ∷ []
+
+-- an event in root with an empty table: its answer, and the rule of its EPTP (document 02, Ask 6), which the
+-- explanation of G names too
+record Ruled : Type 0 where
+  context : Context
+  event : List ℕ
+  answer : ℕ
+  rule : ℕ
+
+rules : Ruled → Bool
+rules k =
+    eqb (stepped (k .context) [] (k .event) 64 .answer) (k .answer)
+    && eqb (stepped (k .context) [] (k .event) 64 .rule) (k .rule)
+    && eqb (explanation-rule (explanation (k .context) G (k .event))) (k .rule)
 
 -- records of each kind, of EP4TA 1234567h where they have one: VPID, PCID, global, span, page
 linear : ℕ → ℕ → ℕ → ℕ → ℕ → List ℕ
@@ -539,6 +553,46 @@ by-pcid =
     ∷ moves (guest 5) A (mov-to-cr3 1) 1 [] (guest 5)
     ∷ []
 
+tells-rule : Context → List ℕ → ℕ → ℕ → Ruled
+tells-rule c e answer rule = record { context = c; event = e; answer = answer; rule = rule }
+
+-- the rules of an EPTP, each by its ways to fail, and the first of several
+by-rule : List Ruled
+by-rule =
+    tells-rule root (invept 1 0x123456701E 0) 0 0
+    ∷ tells-rule root (invept 1 0x1234567019 0) 8 1
+    ∷ tells-rule (at (program - 2 ^ 8) 52 0 0 Root) (invept 1 0x1234567018 0) 8 1
+    ∷ tells-rule (at (program - 2 ^ 14) 52 0 0 Root) (invept 1 0x123456701E 0) 8 1
+    ∷ tells-rule root (invept 1 0x1234567016 0) 8 2
+    ∷ tells-rule (at (program - 2 ^ 6) 52 0 0 Root) (invept 1 0x123456701E 0) 8 2
+    ∷ tells-rule (at without-21 52 0 0 Root) (invept 1 0x123456705E 0) 8 3
+    ∷ tells-rule root (invept 1 (0x123456701E + 2 ^ 7) 0) 8 4
+    ∷ tells-rule root (invept 1 (0x123456701E + 2 ^ 11) 0) 8 4
+    ∷ tells-rule (at program 36 0 0 Root) (invept 1 0x123456701E 0) 8 5
+    ∷ tells-rule root (invept 1 (0x123456701E + 2 ^ 52) 0) 8 5
+    ∷ tells-rule (at without-21 36 0 0 Root) (invept 1 (2 ^ 64 - 1) 0) 8 1
+    ∷ tells-rule (at without-21 36 0 0 Root) (invept 1 (0x1234567046 + 2 ^ 7) 0) 8 2
+    ∷ tells-rule (at without-21 36 0 0 Root) (invept 1 (0x123456705E + 2 ^ 7) 0) 8 3
+    ∷ tells-rule (at program 36 0 0 Root) (invept 1 (0x123456701E + 2 ^ 7) 0) 8 4
+    -- the type, its bit and the upper half go first; type 2 asks no EPTP; nor do 5, 6 and 7
+    ∷ tells-rule root (invept 3 0x1234567019 0) 8 0
+    ∷ tells-rule (at (program - 2 ^ 25) 52 0 0 Root) (invept 1 0x1234567019 0) 8 0
+    ∷ tells-rule root (invept 1 0x1234567019 (2 ^ 63)) 8 0
+    ∷ tells-rule root (invept 2 0x1234567019 1) 8 0
+    ∷ tells-rule root (invept 2 0x1234567019 0) 0 0
+    ∷ tells-rule outside (invept 1 0x1234567019 0) 5 0
+    ∷ tells-rule (guest 5) (invept 1 0x1234567019 0) 6 0
+    ∷ tells-rule (at program 52 0 1 Root) (invept 1 0x1234567019 0) 7 0
+    ∷ tells-rule root (invvpid 1 0 0) 8 0
+    -- a VM entry: VPID 0 goes first; a disabled EPTP is not looked at
+    ∷ tells-rule root (vm-entry 0 0 1 0x1234567019 1 0) 10 1
+    ∷ tells-rule root (vm-entry 1 5 1 0x123456709E 1 0) 10 4
+    ∷ tells-rule root (vm-entry 1 0 1 0x123456709E 1 0) 10 0
+    ∷ tells-rule root (vm-entry 1 0 0 0 1 0) 10 0
+    ∷ tells-rule root (vm-entry 1 5 0 0x123456709E 1 0) 0 0
+    ∷ tells-rule root (vm-entry 0 0 1 0x123456709E 4096 0) 4 0
+    ∷ []
+
 -- 2 and 12 at the limit and one past it: of a table of so many bytes, the answer to a reset, and whether there
 -- is room for A behind it in a new buffer of so many
 limited : Bool
@@ -671,6 +725,6 @@ reasons =
     ∷ []
 
 -- Every row holds.
-cards-hold : (all holds (starred ++ answered ++ dropping ++ bounded ++ by-pcid) && limited && lengths && all shows looks && all tells reasons) ≡ true
-unfolding invpcid mov-to-cr3 by-pcid bad-invpcid invpcid-tests mov-to-cr3-tests translations structures structures-of-0 bounded limited bytes same ept-numbers place-numbers numbers buffer holds shows all without-21 program at root outside guest ept-guest A G linear guest-physical combined linear-structure guest-physical-structure combined-structure invvpid invept invlpg ept-violation vm-entry vm-exit new-pcid-cpl accepts moves refuses finds misses starred answered lengths looks in-range after-reset kind-of mapping-kind event-kind body-of length-of field mapping fields-in-range starts-record record-length covers joined cut records-within records whole only count canonical operands violation entry new-pcid event event-in-range valid-event scope entered next-context first good-eptp invvpid-supported bad-invvpid invept-supported bad-invept invalid-opcode exits general-protection bad-entry creatable created no-room table-grounds event-grounds grounds answer new-table dropped-count stepped written translates-linear usable usable-records lookup-answer lookup start-of lookup-start accepted-step refused-step put Rattle.model.specs.Mappings.linear Rattle.model.specs.Mappings.guest-physical Rattle.model.specs.Mappings.combined structure-cache global-marked tells says dropping reasons invvpid-tests invept-tests invlpg-tests guest-physical-violation-tests combined-violation-tests violation-tests transition-tests has-scope first-failed reason one-record explained-answer explanation own-ground
+cards-hold : (all holds (starred ++ answered ++ dropping ++ bounded ++ by-pcid) && limited && lengths && all shows looks && all tells reasons && all rules by-rule) ≡ true
+unfolding tells-rule by-rule rules eptp-rule own-rule rule-with invpcid mov-to-cr3 by-pcid bad-invpcid invpcid-tests mov-to-cr3-tests translations structures structures-of-0 bounded limited bytes same ept-numbers place-numbers numbers buffer holds shows all without-21 program at root outside guest ept-guest A G linear guest-physical combined linear-structure guest-physical-structure combined-structure invvpid invept invlpg ept-violation vm-entry vm-exit new-pcid-cpl accepts moves refuses finds misses starred answered lengths looks in-range after-reset kind-of mapping-kind event-kind body-of length-of field mapping fields-in-range starts-record record-length covers joined cut records-within records whole only count canonical operands violation entry new-pcid event event-in-range valid-event scope entered next-context first good-eptp invvpid-supported bad-invvpid invept-supported bad-invept invalid-opcode exits general-protection bad-entry creatable created no-room table-grounds event-grounds grounds answer new-table dropped-count stepped written translates-linear usable usable-records lookup-answer lookup start-of lookup-start accepted-step refused-step put Rattle.model.specs.Mappings.linear Rattle.model.specs.Mappings.guest-physical Rattle.model.specs.Mappings.combined structure-cache global-marked tells says dropping reasons invvpid-tests invept-tests invlpg-tests guest-physical-violation-tests combined-violation-tests violation-tests transition-tests has-scope first-failed reason one-record explained-answer explanation own-ground
 cards-hold = refl

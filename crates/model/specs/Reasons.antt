@@ -18,7 +18,7 @@ use Rattle.model.specs.Mappings.{mapping, starts-record}
 use Rattle.model.specs.Tables.{limit}
 use Rattle.model.specs.Events.{event}
 use Rattle.model.specs.Scopes.{Tests, asked}
-use Rattle.model.specs.Answers.{first, answer}
+use Rattle.model.specs.Answers.{first, rule-with, answer}
 
 -- a reason where its test fails, and else what comes after it
 abbrev pub unless : Bool → Reason → Reason → Reason
@@ -62,10 +62,12 @@ one-record r = starts-record r && eqb (length r) (length-of (kind-of r))
 unfoldable pub explained-answer : Context → List ℕ → List ℕ → ℕ
 explained-answer c r e = cond (one-record r) (answer c r e limit) (first ((1, not (in-range c)) ∷ (3, true) ∷ []))
 
--- why the event e drops the record r or leaves it: "step refused (with its number)" goes first
+-- why the event e drops the record r or leaves it: "step refused (with its number)" goes first; "the explainer adds
+-- the number" of the EPTP's rule (Ask 6)
 unfoldable pub explanation : Context → List ℕ → List ℕ → Explanation
 explanation c r e =
-    cond (eqb (explained-answer c r e) 0) (Accepted (reason c (event e) (mapping r))) (Refused (explained-answer c r e))
+    cond (eqb (explained-answer c r e) 0) (Accepted (reason c (event e) (mapping r)))
+    (Refused (explained-answer c r e) (rule-with c e (explained-answer c r e)))
 
 -- the numbers of the reasons, a refusal's among them, from 1 in the paper's order
 abbrev pub reason-number : Reason → ℕ
@@ -80,10 +82,15 @@ reason-number SparedAsGlobal = 9
 reason-number InScope = 10
 
 abbrev pub explanation-number : Explanation → ℕ
-explanation-number (Refused answer) = 1
+explanation-number (Refused answer rule) = 1
 explanation-number (Accepted reason) = reason-number reason
 
 -- the answer that a refusal carries, else 0
 abbrev pub explanation-answer : Explanation → ℕ
-explanation-answer (Refused answer) = answer
+explanation-answer (Refused answer rule) = answer
 explanation-answer (Accepted reason) = 0
+
+-- the rule that goes with it, else 0
+abbrev pub explanation-rule : Explanation → ℕ
+explanation-rule (Refused answer rule) = rule
+explanation-rule (Accepted reason) = 0

@@ -12,7 +12,7 @@ use Rattle.model.specs.Mappings.{mapping}
 use Rattle.model.specs.Tables.{records, joined, only, count}
 use Rattle.model.specs.Events.{event}
 use Rattle.model.specs.Scopes.{scope, next-context}
-use Rattle.model.specs.Answers.{answer, created}
+use Rattle.model.specs.Answers.{answer, rule-with, created}
 
 -- a record lies in the required scope of an event, judged in a context
 abbrev pub in-scope : Context → List ℕ → List ℕ → Bool
@@ -31,18 +31,23 @@ unfoldable pub accepted-step : Context → List ℕ → List ℕ → Step
 accepted-step c t e =
     record {
       answer = 0;
+      rule = 0;
       context = next-context c (event e);
       length = length (new-table c t e);
       dropped = dropped-count c t e;
     }
 
 -- "A refusal ... hands back the same context and reports 0 and 0."
-unfoldable pub refused-step : ℕ → Context → Step
-refused-step answer c = record { answer = answer; context = c; length = 0; dropped = 0 }
+abbrev pub refusal : ℕ → ℕ → Context → Step
+refusal answer rule c = record { answer = answer; rule = rule; context = c; length = 0; dropped = 0 }
+
+-- the step of an event that is refused with an answer
+unfoldable pub refused-step : ℕ → Context → List ℕ → Step
+refused-step answer c e = refusal answer (rule-with c e answer) c
 
 unfoldable pub stepped : Context → List ℕ → List ℕ → ℕ → Step
 stepped c t e room =
-    cond (eqb (answer c t e room) 0) (accepted-step c t e) (refused-step (answer c t e room) c)
+    cond (eqb (answer c t e room) 0) (accepted-step c t e) (refused-step (answer c t e room) c e)
 
 -- the new buffer after a step: "A refusal writes nothing."
 unfoldable pub written : Context → List ℕ → List ℕ → List ℕ → List ℕ

@@ -129,10 +129,10 @@ pub enum Reason {
     InScope,
 }
 
-// Why an event drops a mapping or leaves it: the step is refused with its answer, or it is accepted and
-// the reason decides.
+// Why an event drops a mapping or leaves it: the step is refused with its answer and the rule of the EPTP that goes
+// with it, or it is accepted and the reason decides.
 pub enum Explanation {
-    Refused(u64),
+    Refused(u64, u64),
     Accepted(Reason),
 }
 
@@ -142,10 +142,11 @@ pub enum Address {
     GuestPhysical(u64),
 }
 
-// What a step reports: the answer's number, the context after it, the length of the new table and
-// how many records were dropped.
+// What a step reports: the answer's number, the rule of the EPTP that is broken where that is the ground of 8 or 10
+// (else 0), the context after it, the length of the new table and how many records were dropped.
 pub struct Step {
     pub answer: u64,
+    pub rule: u64,
     pub context: Context,
     pub length: usize,
     pub dropped: usize,

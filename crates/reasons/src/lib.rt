@@ -4,7 +4,7 @@ use model::EventReading;
 use model::Explanation;
 use model::Reason;
 ghost use mathlib.Core.Path.{_≡_};
-ghost use Rattle.model.specs.Reasons.{explanation, reason-number, explanation-number, explanation-answer};
+ghost use Rattle.model.specs.Reasons.{explanation, reason-number, explanation-number, explanation-answer, explanation-rule};
 
 // Why the event drops the record in the bytes or leaves it, judged in the context. The step's refusal goes
 // first; bytes that are not exactly one valid record are refused with 3.
@@ -12,21 +12,21 @@ pub fn explain(c: Context, bytes: &[u8], event: &[u8]) -> Explanation
     ensures { λ r. ⌜ r ≡ explanation c (now (bytes .entry)) (now (event .entry)) ⌝ }
 {
     if !contexts::is_in_range(c) {
-        return Explanation::Refused(1);
+        return Explanation::Refused(1, 0);
     }
     let length = mappings::length_of_record(bytes);
     if length == 0 {
-        return Explanation::Refused(3);
+        return Explanation::Refused(3, 0);
     }
     if length != bytes.len() {
-        return Explanation::Refused(3);
+        return Explanation::Refused(3, 0);
     }
     let EventReading::Read(e) = events::read_event(event) else {
-        return Explanation::Refused(4);
+        return Explanation::Refused(4, 0);
     };
     let answer = answers::answer_to_event(c, e);
     if answer != 0 {
-        return Explanation::Refused(answer);
+        return Explanation::Refused(answer, answers::rule_with_answer(c, e, answer));
     }
     Explanation::Accepted(scopes::reason(c, e, bytes))
 }
@@ -53,7 +53,7 @@ pub fn number(x: Explanation) -> u64
     ensures { λ n. ⌜ n ≡ explanation-number x ⌝ }
 {
     match x {
-        Explanation::Refused(_) => 1,
+        Explanation::Refused(_, _) => 1,
         Explanation::Accepted(r) => reason_number(r),
     }
 }
@@ -63,7 +63,17 @@ pub fn answer(x: Explanation) -> u64
     ensures { λ n. ⌜ n ≡ explanation-answer x ⌝ }
 {
     match x {
-        Explanation::Refused(number) => number,
+        Explanation::Refused(number, _) => number,
+        Explanation::Accepted(_) => 0,
+    }
+}
+
+// The rule of the EPTP that a refusal carries, and 0 with any reason.
+pub fn rule(x: Explanation) -> u64
+    ensures { λ n. ⌜ n ≡ explanation-rule x ⌝ }
+{
+    match x {
+        Explanation::Refused(_, found) => found,
         Explanation::Accepted(_) => 0,
     }
 }

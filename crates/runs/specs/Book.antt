@@ -10,7 +10,7 @@ use Rattle.model.specs.Layouts.{kind-of, mapping-kind}
 use Rattle.model.specs.Tables.{limit, joined}
 use Rattle.model.specs.Events.{event}
 use Rattle.model.specs.Scopes.{next-context}
-use Rattle.model.specs.Answers.{answer}
+use Rattle.model.specs.Answers.{answer, rule-with}
 use Rattle.model.specs.Steps.{in-scope}
 
 -- an accepted event, and the context just before it
@@ -68,16 +68,23 @@ book-after b e =
       notes = b .notes ++ added b e;
     }
 
--- what is told of an event: its answer, its dropped count, and the context after it
+-- what is told of an event: its answer with the EPTP's rule (document 02, Ask 6), its dropped count, and the context
+-- after it
 pub record Report : Type 0 where
   pub answer : ℕ
+  pub rule : ℕ
   pub dropped : ℕ
   pub context : Context
 
 -- "The event's dropped count is how many records stood before it and not after."
 unfoldable pub book-report : Book → List ℕ → Report
 book-report b e =
-    record { answer = book-answer b e; dropped = lost (b .notes) (added b e); context = book-after b e .context }
+    record {
+      answer = book-answer b e;
+      rule = rule-with (b .context) e (book-answer b e);
+      dropped = lost (b .notes) (added b e);
+      context = book-after b e .context;
+    }
 
 -- the reports on a list of events, and the book after it
 unfoldable pub book-reports : Book → List (List ℕ) → List Report

@@ -55,6 +55,7 @@ unfoldable pub run-report : Run → List ℕ → Report
 run-report s e =
     record {
       answer = run-answer s e;
+      rule = stepped (s .context) (s .table) e (length (s .back)) .rule;
       dropped = stepped (s .context) (s .table) e (length (s .back)) .dropped;
       context = stepped (s .context) (s .table) e (length (s .back)) .context;
     }
@@ -131,13 +132,14 @@ pub data Compared : List Gap → List Run → Type 0 where
       → Compared gs ss
       → Compared (g ∷ gs) (s ∷ ss)
 
--- the answer number and the context of a report
+-- the answer number, with its rule, and the context of a report
 pub record Verdict : Type 0 where
   pub answer : ℕ
+  pub rule : ℕ
   pub context : Context
 
 unfoldable pub verdict : Report → Verdict
-verdict r = record { answer = r .answer; context = r .context }
+verdict r = record { answer = r .answer; rule = r .rule; context = r .context }
 
 -- "Tables are equal byte for byte"; the context, every answer and every dropped count are the book's
 pub record FirstRun (c : Context) (es : List (List ℕ)) (a b : List ℕ) : Type 0 where

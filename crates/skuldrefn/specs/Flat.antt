@@ -11,7 +11,7 @@ use Rattle.model.specs.declared.Step.{Step}
 use Rattle.model.specs.declared.Address.{Address}
 use Rattle.model.specs.Steps.{stepped, written}
 use Rattle.model.specs.Lookups.{lookup-answer, lookup, lookup-start}
-use Rattle.model.specs.Reasons.{explanation, explanation-number, explanation-answer}
+use Rattle.model.specs.Reasons.{explanation, explanation-number, explanation-answer, explanation-rule}
 use Rattle.flat_contexts.specs.declared.FlatContext.{FlatContext}
 use Rattle.flat_contexts.specs.Contexts.{is-known, unflatten, flatten}
 use Rattle.skuldrefn.specs.declared.FlatStep.{FlatStep}
@@ -23,18 +23,18 @@ use Rattle.logs.specs.declared.Replayed.{Replayed}
 use Rattle.logs.specs.Replays.{Replays, ByTheBook}
 
 -- a refusal hands back the context as it came
-abbrev pub refused : ℕ → FlatContext → FlatStep
-refused answer c = record { answer = answer; context = c; length = 0; dropped = 0 }
+abbrev pub refused : ℕ → ℕ → FlatContext → FlatStep
+refused answer rule c = record { answer = answer; rule = rule; context = c; length = 0; dropped = 0 }
 
 -- the step's result: answer 1 where a number stands for nothing
 abbrev pub flat-result : FlatContext → Step → FlatStep
 flat-result c s =
     cond (eqb (s .answer) 0)
-    (record { answer = 0; context = flatten (s .context); length = s .length; dropped = s .dropped })
-    (refused (s .answer) c)
+    (record { answer = 0; rule = 0; context = flatten (s .context); length = s .length; dropped = s .dropped })
+    (refused (s .answer) (s .rule) c)
 
 unfoldable pub flat-step : FlatContext → List ℕ → List ℕ → ℕ → FlatStep
-flat-step c t e room = cond (is-known c) (flat-result c (stepped (unflatten c) t e room)) (refused 1 c)
+flat-step c t e room = cond (is-known c) (flat-result c (stepped (unflatten c) t e room)) (refused 1 0 c)
 
 -- the new buffer after it
 unfoldable pub flat-written : FlatContext → List ℕ → List ℕ → List ℕ → List ℕ
@@ -51,12 +51,16 @@ flat-lookup c a t k =
     })
     (record { answer = 1; start = 0; length = 0 })
 
--- a reason: its number and its answer; a refusal with 1 where a number stands for nothing
+-- a reason: its number, its answer and its rule; a refusal with 1 where a number stands for nothing
 unfoldable pub flat-explanation : FlatContext → List ℕ → List ℕ → FlatReason
 flat-explanation c r e =
     cond (is-known c)
-    (record { reason = explanation-number (explanation (unflatten c) r e); answer = explanation-answer (explanation (unflatten c) r e) })
-    (record { reason = 1; answer = 1 })
+    (record {
+      reason = explanation-number (explanation (unflatten c) r e);
+      answer = explanation-answer (explanation (unflatten c) r e);
+      rule = explanation-rule (explanation (unflatten c) r e);
+    })
+    (record { reason = 1; answer = 1; rule = 0 })
 
 -- the context of a capability and N after a reset
 abbrev pub fresh : ℕ → ℕ → Context

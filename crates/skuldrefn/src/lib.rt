@@ -14,12 +14,13 @@ ghost use mathlib.Core.Bool.{cond};
 #[repr(C)]
 pub struct FlatStep {
     pub answer: u64,
+    pub rule: u64,
     pub context: FlatContext,
     pub length: usize,
     pub dropped: usize,
 }
 
-// One step: the answer, the context, the length of the new table and the dropped count. A refusal
+// One step: the answer and the rule of the EPTP that goes with it, the context, the length of the new table and the dropped count. A refusal
 // writes nothing and hands back the context as it came.
 #[no_mangle]
 pub extern "C" fn skuldrefn_step(
@@ -34,6 +35,7 @@ pub extern "C" fn skuldrefn_step(
     if !flat_contexts::is_known(context) {
         return FlatStep {
             answer: 1,
+            rule: 0,
             context,
             length: 0,
             dropped: 0,
@@ -45,6 +47,7 @@ pub extern "C" fn skuldrefn_step(
         let flat = flat_contexts::flat_context(after);
         return FlatStep {
             answer: 0,
+            rule: 0,
             context: flat,
             length: s.length,
             dropped: s.dropped,
@@ -52,6 +55,7 @@ pub extern "C" fn skuldrefn_step(
     }
     FlatStep {
         answer: s.answer,
+        rule: s.rule,
         context,
         length: 0,
         dropped: 0,
@@ -112,13 +116,15 @@ pub extern "C" fn skuldrefn_lookup_guest_physical(
     look_up(context, Address::GuestPhysical(address), table, k)
 }
 
-// Why an event drops a mapping or leaves it: the reason's number, and the answer of a refused step, else 0.
+// Why an event drops a mapping or leaves it: the reason's number, and the answer of a refused step with the rule of
+// the EPTP that goes with it, else 0.
 // 1 refused, 2 no scope, 3 not canonical, 4 wrong kind, 5 wrong VPID, 6 wrong PCID, 7 wrong EP4TA,
 // 8 not covering, 9 spared as global, 10 in scope.
 #[repr(C)]
 pub struct FlatReason {
     pub reason: u64,
     pub answer: u64,
+    pub rule: u64,
 }
 
 // Why the event drops the record in the bytes or leaves it.
@@ -130,12 +136,14 @@ pub extern "C" fn skuldrefn_explain(context: FlatContext, bytes: &[u8], event: &
         return FlatReason {
             reason: 1,
             answer: 1,
+            rule: 0,
         };
     }
     let r = reasons::explain(flat_contexts::context_of(context), bytes, event);
     FlatReason {
         reason: reasons::number(r),
         answer: reasons::answer(r),
+        rule: reasons::rule(r),
     }
 }
 

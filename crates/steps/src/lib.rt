@@ -12,7 +12,7 @@ ghost use Rattle.model.specs.Layouts.{kind-of, mapping-kind};
 ghost use Rattle.model.specs.Tables.{whole, records};
 ghost use Rattle.model.specs.Events.{event};
 ghost use Rattle.model.specs.Answers.{first, table-grounds, created, no-room};
-ghost use Rattle.model.specs.Steps.{new-table, accepted-step, refused-step, stepped, written};
+ghost use Rattle.model.specs.Steps.{new-table, accepted-step, refusal, stepped, written};
 
 // The bytes are a creation's: their kind is a mapping's.
 fn is_creation(e: &[u8]) -> bool
@@ -40,11 +40,12 @@ fn is_without_room(room: usize, table: &[u8], e: &[u8]) -> bool
 }
 
 // What a refused step reports.
-fn refused(answer: u64, context: Context) -> Step
-    ensures { λ r. ⌜ r ≡ refused-step answer context ⌝ }
+fn refused(answer: u64, rule: u64, context: Context) -> Step
+    ensures { λ r. ⌜ r ≡ refusal answer rule context ⌝ }
 {
     Step {
         answer,
+        rule,
         context,
         length: 0,
         dropped: 0,
@@ -78,6 +79,7 @@ fn perform(c: Context, e: Event, table: &[u8], count: usize, raw: &[u8], new: &m
     let length = add_creation(raw, new, filtered.length);
     Step {
         answer: 0,
+        rule: 0,
         context: next_contexts::next_context(c, e),
         length,
         dropped: filtered.dropped,
@@ -93,14 +95,14 @@ pub fn step_judged(c: Context, table: &[u8], count: usize, event: &[u8], new: &m
     ensures { λ _. ⌜ now (new .exit) ≡ written c (now (table .entry)) (now (event .entry)) (now (new .entry)) ⌝ }
 {
     let EventReading::Read(e) = events::read_event(event) else {
-        return refused(4, c);
+        return refused(4, 0, c);
     };
     let answer = answers::answer_to_event(c, e);
     if answer != 0 {
-        return refused(answer, c);
+        return refused(answer, answers::rule_with_answer(c, e, answer), c);
     }
     if is_without_room(new.len(), table, event) {
-        return refused(12, c);
+        return refused(12, 0, c);
     }
     perform(c, e, table, count, event, new)
 }
@@ -114,7 +116,7 @@ pub fn step(c: Context, table: &[u8], event: &[u8], new: &mut [u8]) -> Step
 {
     let judged = tables::judge(c, table);
     if judged.answer != 0 {
-        return refused(judged.answer, c);
+        return refused(judged.answer, 0, c);
     }
     step_judged(c, table, judged.records, event, new)
 }

@@ -45,6 +45,7 @@ pub fn flat_reason(reason: Reason) -> FlatReason {
     FlatReason {
         reason: reason.number(),
         answer: reason.answer(),
+        rule: reason.rule(),
     }
 }
 
@@ -80,6 +81,7 @@ pub fn step(context: &Context, table: &[u8], event: &[u8], new: &mut [u8]) -> mo
     let step = step_flat(&flat(context), table, event, new);
     model::Step {
         answer: step.answer,
+        rule: step.rule,
         context: self::context(&step.context).expect("a context"),
         length: step.length,
         dropped: step.dropped,

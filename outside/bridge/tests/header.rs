@@ -175,7 +175,7 @@ fn lengths() {
 fn the_header_names_every_reason() {
     let header = header();
     for (name, reason) in [
-        ("REFUSED", Reason::Refused(4)),
+        ("REFUSED", Reason::refused(4)),
         ("NO_SCOPE", Reason::NoScope),
         ("NOT_CANONICAL", Reason::NotCanonical),
         ("WRONG_KIND", Reason::WrongKind),
@@ -192,5 +192,22 @@ fn the_header_names_every_reason() {
             found.is_some_and(|rest| rest.starts_with([',', ' '])),
             "{line}"
         );
+    }
+}
+
+/// The rules of an EPTP, in document 02's order.
+#[test]
+fn the_header_names_every_rule() {
+    let header = header();
+    let names = [
+        "MEMORY_TYPE",
+        "WALK_LENGTH",
+        "ACCESSED_AND_DIRTY",
+        "BITS_11_7",
+        "ABOVE_WIDTH",
+    ];
+    for (number, name) in (1..).zip(names) {
+        let line = format!("    SKULDREFN_RULE_{name} = {number}");
+        assert!(header.lines().any(|own| own.starts_with(&line)), "{line}");
     }
 }

@@ -9,21 +9,23 @@ use std::ops::Range;
 /// One step. A place or EPT number that stands for nothing is out of its
 /// range; a refusal hands back the context as it came.
 pub fn step(context: &FlatContext, table: &[u8], event: &[u8], new: &mut [u8]) -> FlatStep {
-    let refused = |answer| FlatStep {
+    let refused = |answer, rule| FlatStep {
         answer,
+        rule,
         context: *context,
         length: 0,
         dropped: 0,
     };
     let Some(known) = bridge::context(context) else {
-        return refused(1);
+        return refused(1, 0);
     };
     let step = model::step(&known, table, event, new);
     if step.answer != 0 {
-        return refused(step.answer);
+        return refused(step.answer, step.rule);
     }
     FlatStep {
         answer: 0,
+        rule: 0,
         context: bridge::flat(&step.context),
         length: step.length,
         dropped: step.dropped,
@@ -55,7 +57,7 @@ pub fn part(answer: u64, usable: &[Range<usize>], k: u64) -> Part {
 /// A reason. A place or EPT number that stands for nothing is refused with 1.
 pub fn explain(context: &FlatContext, record: &[u8], event: &[u8]) -> FlatReason {
     let reason = match bridge::context(context) {
-        None => Reason::Refused(1),
+        None => Reason::refused(1),
         Some(known) => model::explain(&known, record, event),
     };
     bridge::flat_reason(reason)

@@ -37,6 +37,7 @@ impl ExplainCase {
         let differences = [
             difference("reason", got.reason, due.reason),
             difference("answer", got.answer, due.answer),
+            difference("rule", got.rule, due.rule),
         ];
         all_same(differences.into_iter().flatten().collect())?;
         if record != self.record || event != self.event {
@@ -44,6 +45,7 @@ impl ExplainCase {
         }
         tally.reasons[due.reason as usize] += 1;
         tally.refusals[due.answer as usize] += 1;
+        tally.reason_rules[due.rule as usize] += 1;
         Ok(())
     }
 

@@ -155,6 +155,7 @@ impl RunCase {
             };
             let step = first.feed(event).map_err(at)?;
             tally.run_steps[step.answer as usize] += 1;
+            tally.rules[step.rule as usize] += 1;
             if step.answer == 0 {
                 tally.accept(event, step.dropped);
             }
@@ -162,7 +163,8 @@ impl RunCase {
             room = room && step.answer != 12;
             if room {
                 let other = second.feed(event).map_err(at)?;
-                if (other.answer, other.context) != (step.answer, step.context) {
+                let same = other.answer == step.answer && other.rule == step.rule;
+                if !same || other.context != step.context {
                     let both = format!("{other:x?}\nand in the first {step:x?}");
                     return Err(at(format!("in the second run {both}")));
                 }
@@ -203,7 +205,8 @@ fn in_order(first: &Pair, second: &Pair, moment: &Moment, tally: &mut Tally) -> 
 /// The book, fed the event alone, says the same.
 fn by_the_book(book: &mut Book, event: &[u8], step: &FlatStep, table: &[u8]) -> Result<(), String> {
     let verdict = book.feed(event);
-    if (step.answer, step.dropped) != (verdict.answer, verdict.dropped) {
+    let said = (step.answer, step.rule, step.dropped);
+    if said != (verdict.answer, verdict.rule, verdict.dropped) {
         return Err(format!("the book says {verdict:?}, the library {step:x?}"));
     }
     if step.context != bridge::flat(book.context()) {

@@ -32,6 +32,7 @@ impl StepCase {
             return Err("the table or the event was written to".to_string());
         }
         tally.steps[due.answer as usize] += 1;
+        tally.rules[due.rule as usize] += 1;
         if due.answer == 0 {
             tally.accept(&self.event, due.dropped);
         }
@@ -70,6 +71,7 @@ impl fmt::Display for StepCase {
 pub fn same_step(got: &FlatStep, due: &FlatStep) -> Result<(), String> {
     let numbers = [
         difference("answer", got.answer, due.answer),
+        difference("rule", got.rule, due.rule),
         difference("length", got.length as u64, due.length as u64),
         difference("dropped", got.dropped as u64, due.dropped as u64),
     ];

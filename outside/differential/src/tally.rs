@@ -19,6 +19,10 @@ pub struct Tally {
     pub reasons: [u64; 11],
     /// Explanations by the step's answer.
     pub refusals: [u64; 13],
+    /// Steps, single or in runs, by their EPTP rule.
+    pub rules: [u64; 6],
+    /// Explanations by the step's EPTP rule.
+    pub reason_rules: [u64; 6],
     /// Accepted events by their kind.
     pub accepted: [u64; 28],
     /// Accepted events that dropped something.
@@ -75,6 +79,12 @@ impl fmt::Display for Tally {
         }
         writeln!(f, "accepted by kind: {}", numbered(&self.accepted))?;
         writeln!(f, "reasons: {}", numbered(&self.reasons))?;
+        writeln!(
+            f,
+            "EPTP rules: {}; in reasons: {}",
+            numbered(&self.rules),
+            numbered(&self.reason_rules)
+        )?;
         writeln!(
             f,
             "{} events dropped {} records; {} lookups found one; {} runs, {} replays",

@@ -45,6 +45,7 @@ fn sweep_steps(times: usize, sweep: fn(&mut Rng) -> Vec<StepCase>) -> Tally {
 fn steps_of_every_answer() {
     let tally = compare(200, work::steps);
     assert!(tally.steps.iter().all(|count| *count > 1_000));
+    assert!(tally.rules.iter().all(|count| *count > 200));
     assert!(tally.dropping > 1_000);
     for kind in KINDS {
         assert!(tally.accepted[usize::from(kind)] > 100, "kind {kind}");
@@ -94,6 +95,7 @@ fn lookups_for_all_k() {
 fn explanations_of_every_reason() {
     let tally = compare(100, work::explains);
     assert!(tally.reasons[1..].iter().all(|count| *count > 500));
+    assert!(tally.reason_rules.iter().all(|count| *count > 50));
     for (answer, count) in tally.refusals.iter().enumerate() {
         if answer == 2 || answer == 12 {
             assert_eq!(*count, 0);

@@ -3,11 +3,11 @@
 use crate::bounds::{near, near_field};
 use crate::context::{any_context, context};
 use crate::damage::any_event;
-use crate::event::{event, event_of_kind};
+use crate::event::{event, event_of_kind, good_eptp};
 use crate::fitting::fitting;
 use crate::pool;
 use crate::Rng;
-use common::{set_field, PROGRAM_CAPABILITY, PROGRAM_WIDTH};
+use common::{encode, set_field, PROGRAM_CAPABILITY, PROGRAM_WIDTH};
 use model::{Context, Place};
 
 /// A context and a valid event on which the answer aimed at is likely.
@@ -33,6 +33,12 @@ pub fn aimed(rng: &mut Rng, aim: usize) -> (Context, Vec<u8>) {
             let event = event_of_kind(rng, &context, kind);
             (context, event)
         }
+        8 if rng.one_in(3) => {
+            let (context, eptp) = bad_eptp(rng);
+            let kind = rng.pick(&[1, 1, 1, 1, 1, 1, 2, 3]);
+            let high = rng.pick(&[0, 0, 0, 0, 0, 0, 0, 1]);
+            (context, encode(17, &[kind, eptp, high]))
+        }
         8 => {
             let context = root(rng);
             let kind = rng.pick(&[16, 17]);
@@ -44,6 +50,13 @@ pub fn aimed(rng: &mut Rng, aim: usize) -> (Context, Vec<u8>) {
             context.cpl = 0;
             let kind = rng.pick(&[19, 21, 22]);
             let event = event_of_kind(rng, &context, kind);
+            (context, event)
+        }
+        10 if rng.one_in(3) => {
+            let (context, eptp) = bad_eptp(rng);
+            let mut event = event_of_kind(rng, &context, 20);
+            set_field(&mut event, 2, 1);
+            set_field(&mut event, 3, eptp);
             (context, event)
         }
         10 => {
@@ -99,6 +112,30 @@ fn bad_entry(rng: &mut Rng, context: &Context) -> Vec<u8> {
             near_field(rng, &event, 3)
         }
     }
+}
+
+/// A context in root, and an EPTP that breaks none of its rules there, one or
+/// two.
+fn bad_eptp(rng: &mut Rng) -> (Context, u64) {
+    let mut context = root(rng);
+    if !rng.one_in(8) {
+        context.capability = PROGRAM_CAPABILITY;
+    }
+    let mut eptp = good_eptp(rng);
+    for _ in 0..rng.pick(&[0, 1, 1, 1, 2]) {
+        match rng.below(7) {
+            0 => eptp ^= 1 << rng.below(3),
+            1 => eptp ^= 1 << (3 + rng.below(3)),
+            2 | 3 => {
+                eptp |= 1 << 6;
+                context.capability &= !(1 << 21);
+            }
+            4 => eptp |= 1 << (7 + rng.below(5)),
+            5 => eptp |= 1 << (context.width as usize + rng.below(12)),
+            _ => context.capability &= !(1 << rng.pick(&[6, 8, 14])),
+        }
+    }
+    (context, eptp)
 }
 
 /// An event that has a scope, in a context in which it should be accepted.

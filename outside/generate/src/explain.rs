@@ -32,7 +32,12 @@ impl fmt::Display for Explain {
 /// scope in one field or a few; else any answer, or a bad record.
 pub fn explain(rng: &mut Rng) -> Explain {
     let (mut context, mut event) = if rng.one_in(6) {
-        let aim = rng.below(18);
+        // More often at the answers that have an EPTP rule.
+        let aim = match rng.below(24) {
+            18..=20 => 8,
+            21..=23 => 10,
+            aim => aim,
+        };
         aimed(rng, aim)
     } else {
         accepted(rng)

@@ -1,4 +1,5 @@
-//! The generator reaches every answer often, and gives the same each time.
+//! The generator reaches every answer, reason and EPTP rule often, and gives
+//! the same each time.
 
 use common::{canonical, field, sizes, KINDS, LOG_LIMIT};
 use generate::{case, events, explain, filling_log, log, near_events, query, Rng};
@@ -12,11 +13,13 @@ fn every_answer_is_reached() {
     let mut rng = Rng::new(SEED);
     let mut reached = [0; 13];
     let mut kinds_accepted = [0; 28];
+    let mut rules = [[0; 6]; 13];
     let mut dropping = 0;
     for _ in 0..20_000 {
         let mut case = case(&mut rng);
         let step = step(&case.context, &case.table, &case.event, &mut case.new);
         reached[step.answer as usize] += 1;
+        rules[step.answer as usize][step.rule as usize] += 1;
         if step.answer == 0 {
             kinds_accepted[usize::from(case.event[0])] += 1;
             dropping += usize::from(step.dropped > 0);
@@ -25,11 +28,15 @@ fn every_answer_is_reached() {
     println!("answers reached: {reached:?}");
     println!("kinds accepted: {kinds_accepted:?}");
     println!("with a drop: {dropping}");
+    println!("rules of 8: {:?}, of 10: {:?}", rules[8], rules[10]);
     assert!(reached.iter().all(|count| *count >= 300));
     for kind in KINDS {
         assert!(kinds_accepted[usize::from(kind)] >= 30, "kind {kind}");
     }
     assert!(dropping >= 500);
+    for answer in [8, 10] {
+        assert!(rules[answer].iter().all(|count| *count >= 20));
+    }
 }
 
 /// Each ground of INVPCID's answer 7 alone: the CPL, the type, the reserved
@@ -98,12 +105,14 @@ fn every_reason_is_reached() {
     let mut rng = Rng::new(SEED);
     let mut reached = [0; 11];
     let mut answers = [0; 13];
+    let mut rules = [0; 6];
     let mut by_kind = [[0; 11]; 28];
     for _ in 0..50_000 {
         let case = explain(&mut rng);
         let reason = model::explain(&case.context, &case.record, &case.event);
         reached[reason.number() as usize] += 1;
         answers[reason.answer() as usize] += 1;
+        rules[reason.rule() as usize] += 1;
         if let Some(counts) = case
             .event
             .first()
@@ -114,7 +123,9 @@ fn every_reason_is_reached() {
     }
     println!("reasons reached: {reached:?}");
     println!("answers reached: {answers:?}");
+    println!("rules reached: {rules:?}");
     assert!(reached[1..].iter().all(|count| *count >= 400));
+    assert!(rules.iter().all(|count| *count >= 20));
     for (answer, count) in answers.iter().enumerate() {
         if answer == 2 || answer == 12 {
             assert_eq!(*count, 0, "answer {answer}");

@@ -5,7 +5,7 @@
 
 use crate::context::Context;
 use crate::event::Event;
-use crate::judge::answer;
+use crate::judge::{answer, rule};
 use crate::mapping::Mapping;
 use crate::scope::in_scope;
 use crate::TABLE_LIMIT;
@@ -31,6 +31,8 @@ impl Note {
 #[derive(Clone, Copy, Debug, PartialEq, Eq)]
 pub struct Verdict {
     pub answer: u64,
+    /// As the step's.
+    pub rule: u64,
     pub dropped: usize,
 }
 
@@ -96,8 +98,13 @@ impl Book {
     /// The next event: any bytes.
     pub fn feed(&mut self, event: &[u8]) -> Verdict {
         let answer = answer(&self.context, &self.table(), event, TABLE_LIMIT);
-        let (0, Some(decoded)) = (answer, Event::decode(event)) else {
-            return Verdict { answer, dropped: 0 };
+        let decoded = Event::decode(event);
+        let (0, Some(decoded)) = (answer, decoded) else {
+            return Verdict {
+                answer,
+                rule: decoded.map_or(0, |event| rule(&self.context, &event, answer)),
+                dropped: 0,
+            };
         };
         let note = Note {
             event: event.to_vec(),
@@ -117,6 +124,10 @@ impl Book {
         }
         self.context = decoded.after(&self.context);
         self.notes.push(note);
-        Verdict { answer, dropped }
+        Verdict {
+            answer,
+            rule: 0,
+            dropped,
+        }
     }
 }

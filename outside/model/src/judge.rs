@@ -149,6 +149,13 @@ fn bad_invept(context: &Context, kind: u64, low: u64, high: u64) -> bool {
 
 /// Whether an EPTP is good.
 pub fn good_eptp(context: &Context, eptp: u64) -> bool {
+    failed_rule(context, eptp) == 0
+}
+
+/// The first rule that an EPTP breaks (document 02, Ask 6): 1 memory type, 2
+/// walk length, 3 accessed and dirty, 4 bits 11:7, 5 bits above the width. 0 if
+/// it is good.
+pub fn failed_rule(context: &Context, eptp: u64) -> u64 {
     let memory_type = match eptp & 7 {
         0 => context.has(8),
         6 => context.has(14),
@@ -156,8 +163,34 @@ pub fn good_eptp(context: &Context, eptp: u64) -> bool {
     };
     let walk_length = eptp >> 3 & 7 == 3 && context.has(6);
     let accessed_and_dirty = eptp >> 6 & 1 == 0 || context.has(21);
-    let reserved = eptp >> 7 & 31 == 0 && eptp >> context.width == 0;
-    memory_type && walk_length && accessed_and_dirty && reserved
+    if !memory_type {
+        1
+    } else if !walk_length {
+        2
+    } else if !accessed_and_dirty {
+        3
+    } else if eptp >> 7 & 31 != 0 {
+        4
+    } else if eptp >> context.width != 0 {
+        5
+    } else {
+        0
+    }
+}
+
+/// The EPTP's failed rule if the EPTP was the ground for this answer to the
+/// event, else 0 (Ask 6). INVEPT tests its type and descriptor bits 127:64
+/// before the EPTP, and an entry its VPID.
+pub fn rule(context: &Context, event: &Event, answer: u64) -> u64 {
+    let ground = match *event {
+        Event::Invept { kind, low, high } if answer == 8 => {
+            let reached = kind == 1 && context.has(25) && high == 0;
+            reached.then_some(low)
+        }
+        Event::Entry { vpid, eptp, .. } if answer == 10 => eptp.filter(|_| vpid != Some(0)),
+        _ => None,
+    };
+    ground.map_or(0, |eptp| failed_rule(context, eptp))
 }
 
 /// 9: VMXON in root; VM exit not in a guest; EPT violation not in a guest

@@ -8,7 +8,7 @@
 //! * [`context`]: the context and its ranges.
 //! * [`mapping`]: mapping records and tables.
 //! * [`event`]: events (with Ask 5's two), and the context after one.
-//! * [`judge`]: the numbered answers.
+//! * [`judge`]: the numbered answers, and the rules of an EPTP (Ask 6).
 //! * [`scope`]: the required scopes.
 //! * [`reason`]: why a mapping went or stayed (Ask 1).
 //! * [`step()`], [`lookup()`], [`replay()`]: what the model does.

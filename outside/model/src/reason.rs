@@ -1,4 +1,4 @@
-//! Why a mapping went or stayed (document 02, Ask 1; with Asks 2 and 5).
+//! Why a mapping went or stayed (document 02, Ask 1; with Asks 2, 5 and 6).
 //!
 //! The reasons are tried in the paper's order, and the first that holds is
 //! given. Each is written down from the papers by itself, and not from
@@ -13,8 +13,11 @@ use crate::TABLE_LIMIT;
 /// The reasons, in the paper's order.
 #[derive(Clone, Copy, Debug, PartialEq, Eq)]
 pub enum Reason {
-    /// The step is refused, with its number.
-    Refused(u64),
+    /// The step is refused, with its number and its EPTP rule (Ask 6).
+    Refused {
+        answer: u64,
+        rule: u64,
+    },
     /// The event has no scope.
     NoScope,
     /// INVLPG of an address that is not canonical.
@@ -30,10 +33,15 @@ pub enum Reason {
 }
 
 impl Reason {
+    /// A refusal on another ground than an EPTP.
+    pub fn refused(answer: u64) -> Reason {
+        Reason::Refused { answer, rule: 0 }
+    }
+
     /// The reason's number, from 1.
     pub fn number(self) -> u64 {
         match self {
-            Reason::Refused(_) => 1,
+            Reason::Refused { .. } => 1,
             Reason::NoScope => 2,
             Reason::NotCanonical => 3,
             Reason::WrongKind => 4,
@@ -49,7 +57,15 @@ impl Reason {
     /// The step's answer: 0 but for a refusal.
     pub fn answer(self) -> u64 {
         match self {
-            Reason::Refused(answer) => answer,
+            Reason::Refused { answer, .. } => answer,
+            _ => 0,
+        }
+    }
+
+    /// The step's EPTP rule: 0 but for a refusal on that ground.
+    pub fn rule(self) -> u64 {
+        match self {
+            Reason::Refused { rule, .. } => rule,
             _ => 0,
         }
     }
@@ -58,9 +74,12 @@ impl Reason {
 /// Why an event takes a record or leaves it: any context and any bytes.
 pub fn explain(context: &Context, record: &[u8], event: &[u8]) -> Reason {
     let answer = answer(context, record, event);
-    let (0, Some(mapping), Some(decoded)) = (answer, Mapping::decode(record), Event::decode(event))
-    else {
-        return Reason::Refused(answer);
+    let decoded = Event::decode(event);
+    let (0, Some(mapping), Some(decoded)) = (answer, Mapping::decode(record), decoded) else {
+        return Reason::Refused {
+            answer,
+            rule: decoded.map_or(0, |event| judge::rule(context, &event, answer)),
+        };
     };
     of_accepted(context, &mapping, &decoded)
 }

@@ -2,7 +2,7 @@
 
 use crate::context::Context;
 use crate::event::Event;
-use crate::judge::answer;
+use crate::judge::{answer, rule};
 use crate::mapping::records;
 use crate::scope::in_scope;
 
@@ -10,6 +10,9 @@ use crate::scope::in_scope;
 #[derive(Clone, Copy, Debug, PartialEq, Eq)]
 pub struct Step {
     pub answer: u64,
+    /// The EPTP's first failed rule, 1 to 5, if that was the ground of the
+    /// refusal; else 0 (document 02, Ask 6).
+    pub rule: u64,
     pub context: Context,
     /// The new table's length; 0 on a refusal.
     pub length: usize,
@@ -18,10 +21,11 @@ pub struct Step {
 }
 
 impl Step {
-    /// A refusal: the same context, 0 and 0.
+    /// A refusal on another ground than an EPTP: the same context, 0 and 0.
     pub fn refused(answer: u64, context: &Context) -> Step {
         Step {
             answer,
+            rule: 0,
             context: *context,
             length: 0,
             dropped: 0,
@@ -33,8 +37,12 @@ impl Step {
 /// of `new`; bytes past it stay. A refusal writes nothing.
 pub fn step(context: &Context, table: &[u8], event: &[u8], new: &mut [u8]) -> Step {
     let answer = answer(context, table, event, new.len());
-    let (0, Some(records), Some(decoded)) = (answer, records(table), Event::decode(event)) else {
-        return Step::refused(answer, context);
+    let decoded = Event::decode(event);
+    let (0, Some(records), Some(decoded)) = (answer, records(table), decoded) else {
+        return Step {
+            rule: decoded.map_or(0, |event| rule(context, &event, answer)),
+            ..Step::refused(answer, context)
+        };
     };
     let mut kept = Vec::new();
     let mut dropped = 0;
@@ -51,6 +59,7 @@ pub fn step(context: &Context, table: &[u8], event: &[u8], new: &mut [u8]) -> St
     new[..kept.len()].copy_from_slice(&kept);
     Step {
         answer,
+        rule: 0,
         context: decoded.after(context),
         length: kept.len(),
         dropped,

@@ -9,7 +9,7 @@
 
 use crate::context::Context;
 use crate::event::{self, canonical, ep4ta, page, Event};
-use crate::judge::{grounds, needed};
+use crate::judge::{grounds, needed, rule};
 use crate::lookup::Address;
 use crate::replay::Line;
 use crate::step::Step;
@@ -202,7 +202,10 @@ pub fn step(context: &Context, table: &[u8], event: &[u8], new: &mut [u8]) -> St
     };
     let grounds = grounds(context, &decoded);
     if grounds != 0 {
-        return Step::refused(grounds, context);
+        return Step {
+            rule: rule(context, &decoded, grounds),
+            ..Step::refused(grounds, context)
+        };
     }
     if new.len().min(TABLE_LIMIT) < needed(table, event, &decoded) {
         return Step::refused(12, context);
@@ -210,6 +213,7 @@ pub fn step(context: &Context, table: &[u8], event: &[u8], new: &mut [u8]) -> St
     let (length, dropped) = write(context, table, count, event, &decoded, new);
     Step {
         answer: 0,
+        rule: 0,
         context: decoded.after(context),
         length,
         dropped,

@@ -13,6 +13,7 @@ fn steps() {
     println!("seed {SEED}");
     let mut rng = Rng::new(SEED);
     let mut reached = [0; 13];
+    let mut rules = [0; 6];
     for number in 0..100_000 {
         let case = case(&mut rng);
         let mut plain = case.new.clone();
@@ -31,9 +32,11 @@ fn steps() {
         };
         assert_eq!(plain[touched..], case.new[touched..], "{case}");
         reached[expected.answer as usize] += 1;
+        rules[expected.rule as usize] += 1;
     }
-    println!("answers reached: {reached:?}");
+    println!("answers reached: {reached:?}, rules: {rules:?}");
     assert!(reached.iter().all(|count| *count > 1_000));
+    assert!(rules.iter().all(|count| *count > 200));
 }
 
 #[test]
@@ -98,8 +101,8 @@ impl Run {
         }
     }
 
-    /// Answer and dropped count of one event.
-    fn feed(&mut self, event: &[u8], room: usize) -> (u64, usize) {
+    /// Answer, EPTP rule and dropped count of one event.
+    fn feed(&mut self, event: &[u8], room: usize) -> (u64, u64, usize) {
         let mut new = vec![0; room];
         let step = step(&self.context, &self.table, event, &mut new);
         if step.answer == 0 {
@@ -107,7 +110,7 @@ impl Run {
             self.table = new;
         }
         self.context = step.context;
-        (step.answer, step.dropped)
+        (step.answer, step.rule, step.dropped)
     }
 }
 
@@ -124,12 +127,13 @@ fn runs_against_the_book() {
             let room = TABLE_LIMIT + rng.below(3);
             let got = run.feed(&event, room);
             let verdict = book.feed(&event);
+            let due = (verdict.answer, verdict.rule, verdict.dropped);
             let shown = || format!("seed {SEED}, run {number}: {}", hex(&event));
-            assert_eq!(got, (verdict.answer, verdict.dropped), "{}", shown());
+            assert_eq!(got, due, "{}", shown());
             assert_eq!(&run.context, book.context(), "{}", shown());
             assert_eq!(run.table, book.table(), "{}", shown());
             assert_eq!(book.standing(), book.standing_by_notes(), "{}", shown());
-            dropped += got.1;
+            dropped += got.2;
         }
     }
     println!("dropped: {dropped}");
@@ -149,11 +153,11 @@ fn second_runs() {
             in_order_parts(&first, &second, &addresses);
             second.table = removal(&mut rng, &second.table);
             in_order_parts(&first, &second, &addresses);
-            let (answer, _) = first.feed(&event, TABLE_LIMIT);
-            let (other, _) = second.feed(&event, TABLE_LIMIT);
+            let (answer, rule, _) = first.feed(&event, TABLE_LIMIT);
+            let (other, other_rule, _) = second.feed(&event, TABLE_LIMIT);
             let shown = || format!("seed {SEED}, run {number}: {}", hex(&event));
             assert_ne!(answer, 12, "{}", shown());
-            assert_eq!(answer, other, "{}", shown());
+            assert_eq!((answer, rule), (other, other_rule), "{}", shown());
             assert_eq!(first.context, second.context, "{}", shown());
             in_order_parts(&first, &second, &addresses);
         }

@@ -1,4 +1,4 @@
-//! Why a mapping went or stayed (document 02, Asks 1, 2 and 5):
+//! Why a mapping went or stayed (document 02, Asks 1, 2, 5 and 6):
 //! rows worked out from the papers by hand, then random inputs.
 
 mod common;
@@ -41,7 +41,7 @@ fn all_wrong(m: &mut M) {
 #[test]
 fn the_numbers_are_the_papers_order() {
     let order = [
-        Refused(5),
+        Reason::refused(5),
         NoScope,
         NotCanonical,
         WrongKind,
@@ -85,17 +85,24 @@ fn refused_with_the_steps_number() {
         (root(), mov_to_cr3(4_096), 4),
         (root(), invvpid(0, 5, ODD), 8),
         (root(), invvpid(4, 5, 0), 8),
-        (root(), invept(1, 0, 0), 8),
+        (root(), invept(0, 0, 0), 8),
         (root(), VMXON.to_vec(), 9),
         (root(), exit(0), 9),
         (guest(5, None), violation(0, 1, 0), 9),
         (root(), entry(1, 0, 0, 0, 0, 0), 10),
-        (root(), entry(0, 0, 1, 0, 0, 0), 10),
+        (root(), entry(1, 0, 1, 0, 0, 0), 10),
         (root(), A.to_vec(), 11),
     ] {
         for kind in 1..=6 {
             let got = explain(&context, &m(kind).bytes(), &event);
-            assert_eq!(got, Refused(number), "{event:?}");
+            assert_eq!(got, Reason::refused(number), "{event:?}");
+        }
+    }
+    // EPTP 0: its walk length is bad.
+    for (event, answer) in [(invept(1, 0, 0), 8), (entry(0, 0, 1, 0, 0, 0), 10)] {
+        for kind in 1..=6 {
+            let got = explain(&root(), &m(kind).bytes(), &event);
+            assert_eq!(got, Refused { answer, rule: 2 }, "{event:?}");
         }
     }
 }
@@ -122,9 +129,9 @@ fn not_exactly_one_record_is_3_and_never_2() {
     ] {
         // 3 goes before every later number, and 1 before 3.
         for event in [&RESET[..], &[], &VMXOFF, &invlpg(0)] {
-            assert_eq!(explain(&outside(), &record, event), Refused(3));
+            assert_eq!(explain(&outside(), &record, event), Reason::refused(3));
             let narrow = with_width(outside(), 35);
-            assert_eq!(explain(&narrow, &record, event), Refused(1));
+            assert_eq!(explain(&narrow, &record, event), Reason::refused(1));
         }
     }
 }
@@ -142,8 +149,8 @@ fn every_context_field_is_looked_at_first() {
         guest(65_536, None),
         guest(5, Some(1 << 40)),
     ] {
-        assert_eq!(explain(&context, &A, &RESET), Refused(1));
-        assert_eq!(explain(&context, &rubbish, &rubbish), Refused(1));
+        assert_eq!(explain(&context, &A, &RESET), Reason::refused(1));
+        assert_eq!(explain(&context, &rubbish, &rubbish), Reason::refused(1));
     }
 }
 
@@ -662,13 +669,14 @@ fn in_scope_exactly_if_the_step_drops_the_record() {
         let shown = || format!("seed {SEED}, case {number}\n{case}\n{reason:?}");
         let step = step(&case.context, &case.record, &case.event, &mut new);
         if step.answer == 1 {
-            assert_eq!(reason, Refused(1), "{}", shown());
+            assert_eq!(reason, Reason::refused(1), "{}", shown());
         } else if Mapping::decode(&case.record).is_none() {
-            assert_eq!(reason, Refused(3), "{}", shown());
+            assert_eq!(reason, Reason::refused(3), "{}", shown());
         } else {
             let dropped = step.answer == 0 && step.dropped == 1;
             assert_eq!(reason == InScope, dropped, "{}", shown());
             assert_eq!(reason.answer(), step.answer, "{}", shown());
+            assert_eq!(reason.rule(), step.rule, "{}", shown());
             assert_eq!(reason.number() == 1, step.answer != 0, "{}", shown());
         }
         reached[reason.number() as usize] += 1;

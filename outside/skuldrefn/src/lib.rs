@@ -73,6 +73,10 @@ pub const LIBRARY: &str = env!("SKULDREFN_LIB_FOUND");
 pub struct Step {
     /// 0 to 12; 0 is accepted.
     pub answer: u64,
+    /// The first rule that the EPTP breaks, if that is the ground of answer 8
+    /// or 10, else 0: 1 memory type, 2 walk length, 3 accessed and dirty, 4
+    /// bits 11:7, 5 bits above the width.
+    pub rule: u64,
     /// The context after the event.
     pub context: Context,
     /// The new table's length in bytes.
@@ -90,6 +94,7 @@ pub fn step(context: &Context, table: &[u8], event: &[u8], new: &mut [u8]) -> St
     let step = step_flat(&context.into(), table, event, new);
     Step {
         answer: step.answer,
+        rule: step.rule,
         context: known(&step.context),
         length: step.length,
         dropped: step.dropped,

@@ -22,10 +22,12 @@ pub struct FlatContext {
 }
 
 /// What a step reports. A refusal hands back the context as it came, 0 and 0.
+/// `rule` is 1 to 5 if a bad EPTP is its ground, else 0.
 #[repr(C)]
 #[derive(Clone, Copy, Debug, PartialEq, Eq)]
 pub struct FlatStep {
     pub answer: u64,
+    pub rule: u64,
     pub context: FlatContext,
     pub length: usize,
     pub dropped: usize,
@@ -41,12 +43,13 @@ pub struct Part {
 }
 
 /// Why a mapping went or stayed: the reason's number, 1 to 10, and with reason
-/// 1 the step's answer, else 0.
+/// 1 the step's answer and rule, else 0 and 0.
 #[repr(C)]
 #[derive(Clone, Copy, Debug, PartialEq, Eq)]
 pub struct FlatReason {
     pub reason: u64,
     pub answer: u64,
+    pub rule: u64,
 }
 
 /// What a replay reports: the context and the length of the table in force,

@@ -27,6 +27,7 @@ fn start() -> FlatContext {
 fn refused(answer: u64, context: FlatContext) -> FlatStep {
     FlatStep {
         answer,
+        rule: 0,
         context,
         length: 0,
         dropped: 0,
@@ -107,7 +108,7 @@ fn numbers_that_stand_for_nothing_are_answered_1() {
         assert_eq!(step, refused(1, context));
         assert_eq!(new, [0xA5; 40]);
         let reason = skuldrefn::explain_flat(&context, &A, &RESET);
-        assert_eq!((reason.reason, reason.answer), (1, 1));
+        assert_eq!((reason.reason, reason.answer, reason.rule), (1, 1, 0));
     }
 }
 
@@ -115,7 +116,7 @@ fn numbers_that_stand_for_nothing_are_answered_1() {
 fn reasons() {
     let explain = |event: &[u8]| skuldrefn::explain(&guest(), &A, event);
     assert_eq!(explain(&RESET), Reason::InScope);
-    assert_eq!(explain(&VMXON), Reason::Refused(6));
+    assert_eq!(explain(&VMXON), Reason::refused(6));
     assert_eq!(explain(&A), Reason::NoScope);
     let invlpg = |address: u64| [&[18], &address.to_le_bytes()[..]].concat();
     assert_eq!(explain(&invlpg(0x1234_5678)), Reason::InScope);
@@ -129,14 +130,52 @@ fn reasons() {
 fn reasons_there_and_back() {
     for number in 0..20 {
         for answer in 0..20 {
-            let flat = FlatReason {
-                reason: number,
-                answer,
-            };
-            match flat.reason() {
-                Some(reason) => assert_eq!(FlatReason::from(reason), flat),
-                None => assert!(!(1..=10).contains(&number) || (number == 1) == (answer == 0)),
+            for rule in 0..8 {
+                let flat = FlatReason {
+                    reason: number,
+                    answer,
+                    rule,
+                };
+                let ruled = answer == 8 || answer == 10;
+                let stands = match number {
+                    1 => answer > 0 && (rule == 0 || rule <= 5 && ruled),
+                    2..=10 => answer == 0 && rule == 0,
+                    _ => false,
+                };
+                let reason = flat.reason();
+                assert_eq!(reason.is_some(), stands, "{flat:?}");
+                assert!(reason.is_none_or(|own| FlatReason::from(own) == flat));
             }
+        }
+    }
+}
+
+/// The rule is handed on: an EPTP with bit 7, and one whose type is bad too.
+#[test]
+fn rules() {
+    let root = Context {
+        place: Place::Root,
+        ..Context::program()
+    };
+    for (eptp, rule) in [
+        (0x12_3456_701E_u64, 0),
+        (0x12_3456_709E, 4),
+        (0x12_3456_709F, 1),
+    ] {
+        // INVEPT type 1; VM entry with VPID 5 and EPT.
+        let invept = [&[17, 1], &[0; 7][..], &eptp.to_le_bytes(), &[0; 8]].concat();
+        let entry = [&[20, 1, 5, 0, 1], &eptp.to_le_bytes()[..], &[0; 3]].concat();
+        for (event, refusal, accepted) in
+            [(invept, 8, Reason::WrongKind), (entry, 10, Reason::NoScope)]
+        {
+            let answer = if rule == 0 { 0 } else { refusal };
+            let step = skuldrefn::step(&root, &[], &event, &mut []);
+            assert_eq!((step.answer, step.rule), (answer, rule));
+            let due = match rule {
+                0 => accepted,
+                _ => Reason::Refused { answer, rule },
+            };
+            assert_eq!(skuldrefn::explain(&root, &A, &event), due);
         }
     }
 }
@@ -154,9 +193,9 @@ fn empty_slices() {
     let step = skuldrefn::step_flat(&start(), &A, &VMXON, &mut []);
     assert_eq!(step, refused(12, start()));
     let explain = |record, event| skuldrefn::explain(&Context::program(), record, event);
-    assert_eq!(explain(&[], &RESET), Reason::Refused(3));
-    assert_eq!(explain(&A, &[]), Reason::Refused(4));
-    assert_eq!(explain(&[], &[]), Reason::Refused(3));
+    assert_eq!(explain(&[], &RESET), Reason::refused(3));
+    assert_eq!(explain(&A, &[]), Reason::refused(4));
+    assert_eq!(explain(&[], &[]), Reason::refused(3));
 }
 
 #[test]
@@ -191,7 +230,7 @@ fn null_with_length_0_elsewhere() {
             ),
             (raw::skuldrefn_explain(start(), null(), 0, null(), 0), 3),
         ] {
-            assert_eq!((reason.reason, reason.answer), (1, answer));
+            assert_eq!((reason.reason, reason.answer, reason.rule), (1, answer, 0));
         }
         for part in [
             raw::skuldrefn_lookup_linear(start(), null(), 0, 0, 0),

@@ -8,14 +8,15 @@ use common::{encode, set_field, PROGRAM_CAPABILITY, PROGRAM_WIDTH};
 /// A context as its eight numbers: capability, N, PCID, CPL, place, VPID, EPT, EP4TA.
 pub type Context = [u64; 8];
 
-/// A step: what is given, the answer, the count of dropped records, the new table, and the context
-/// after it.
+/// A step: what is given, the answer, the rule of the EPTP (document 02, Ask 6), the count of dropped
+/// records, the new table, and the context after it.
 pub struct Step {
     pub name: &'static str,
     pub context: Context,
     pub table: Vec<u8>,
     pub event: Vec<u8>,
     pub answer: u64,
+    pub rule: u64,
     pub dropped: u64,
     pub new: Vec<u8>,
     pub after: Context,
@@ -35,7 +36,7 @@ pub struct Lookup {
     pub part: Vec<u8>,
 }
 
-/// A reason: what is given, its number in Ask 1's order from 1, and the step's answer.
+/// A reason: what is given, its number in Ask 1's order from 1, the step's answer, and its rule.
 pub struct Reason {
     pub name: &'static str,
     pub context: Context,
@@ -43,6 +44,7 @@ pub struct Reason {
     pub event: Vec<u8>,
     pub reason: u64,
     pub answer: u64,
+    pub rule: u64,
 }
 
 /// A: linear translation, VPID 5, PCID 1, span 0, page 12345h, frame ABCDEh.
@@ -175,6 +177,7 @@ fn accepts(
         table: table.as_ref().to_vec(),
         event: event.as_ref().to_vec(),
         answer: 0,
+        rule: 0,
         dropped,
         new: new.as_ref().to_vec(),
         after: context,
@@ -185,6 +188,11 @@ impl Step {
     /// The same with another context after it.
     fn then(self, after: Context) -> Step {
         Step { after, ..self }
+    }
+
+    /// The same with a rule of the EPTP.
+    fn by(self, rule: u64) -> Step {
+        Step { rule, ..self }
     }
 }
 
@@ -240,6 +248,14 @@ fn gives(
         event: event.as_ref().to_vec(),
         reason,
         answer,
+        rule: 0,
+    }
+}
+
+impl Reason {
+    /// The same with a rule of the EPTP.
+    fn by(self, rule: u64) -> Reason {
+        Reason { rule, ..self }
     }
 }
 
@@ -263,9 +279,9 @@ pub fn steps() -> Vec<Step> {
         refuses("span 1, page 12201h", ROOT, linear(5, 1, 0, 1, 0x12201), invvpid(0, 5, 0x12345000), 3),
         accepts("A with global 1 under type 3", ROOT, linear(5, 1, 1, 0, 0x12345), invvpid(3, 5, 0), 0, linear(5, 1, 1, 0, 0x12345)),
         accepts("G; INVEPT 1, EPTP 123456701Eh, N = 37", root_of_width(37), G, invept(1, 0x123456701E, 0), 1, NONE),
-        refuses("G; INVEPT 1, EPTP 123456701Eh, N = 36", root_of_width(36), G, invept(1, 0x123456701E, 0), 8),
+        refuses("G; INVEPT 1, EPTP 123456701Eh, N = 36", root_of_width(36), G, invept(1, 0x123456701E, 0), 8).by(5),
         accepts("G; INVEPT 1, EPTP 123456705Eh (mistake 1)", ROOT, G, invept(1, 0x123456705E, 0), 1, NONE),
-        refuses("the same without capability bit 21", root_without_21(), G, invept(1, 0x123456705E, 0), 8),
+        refuses("the same without capability bit 21", root_without_21(), G, invept(1, 0x123456705E, 0), 8).by(3),
         accepts("PCID 4,095 in a record", ROOT, linear(5, 4095, 0, 0, 0), invvpid(1, 5, 0), 1, NONE),
         refuses("PCID 4,096 in a record", ROOT, linear(5, 4096, 0, 0, 0), invvpid(1, 5, 0), 3),
         accepts("PCID 4,095 in an event", GUEST, A, exit(4095), 0, A).then(at(4095, 0, 1, 0, 0, 0)),
@@ -313,6 +329,17 @@ pub fn steps() -> Vec<Step> {
         accepts("Ask 5: MOV to CR3, the new PCID's alone", GUEST, [&A[..], &linear(5, 2, 0, 0, 0), &linear(5, 2, 1, 0, 0)].concat(), mov_to_cr3(2), 1, [&A[..], &linear(5, 2, 1, 0, 0)].concat()).then(at(2, 0, 2, 5, 0, 0)),
         refuses("Ask 5: MOV to CR3, PCID 4,096", GUEST, A, mov_to_cr3(4096), 4),
         refuses("Ask 5: MOV to CR3 at CPL 1", at(1, 1, 1, 0, 0, 0), A, mov_to_cr3(1), 7),
+        refuses("Ask 6: INVEPT 1, memory type 1", ROOT, G, invept(1, 0x1234567019, 0), 8).by(1),
+        refuses("Ask 6: INVEPT 1, walk length 2", ROOT, G, invept(1, 0x1234567016, 0), 8).by(2),
+        refuses("Ask 6: INVEPT 1, bit 7", ROOT, G, invept(1, 0x123456709E, 0), 8).by(4),
+        refuses("Ask 6: INVEPT 1, bit 52", ROOT, G, invept(1, 0x123456701E + (1 << 52), 0), 8).by(5),
+        refuses("Ask 6: INVEPT 1, all five", root_without_21(), G, invept(1, u64::MAX, 0), 8).by(1),
+        refuses("Ask 6: INVEPT 3, a bad EPTP", ROOT, G, invept(3, 0x1234567019, 0), 8),
+        refuses("Ask 6: INVEPT 1, a bad EPTP and bit 64", ROOT, G, invept(1, 0x1234567019, 1), 8),
+        refuses("Ask 6: INVEPT 1 at CPL 1, a bad EPTP", at(0, 1, 1, 0, 0, 0), G, invept(1, 0x1234567019, 0), 7),
+        accepts("Ask 6: INVEPT 2, a bad EPTP", ROOT, G, invept(2, 0x1234567019, 0), 1, NONE),
+        refuses("Ask 6: entry, bit 7 of the EPTP", ROOT, A, entry(0, 0, 1, 0x123456709E, 1, 0), 10).by(4),
+        refuses("Ask 6: entry with VPID 0 and a bad EPTP", ROOT, A, entry(1, 0, 1, 0x123456709E, 1, 0), 10),
     ]
 }
 
@@ -379,6 +406,8 @@ pub fn reasons() -> Vec<Reason> {
         gives("why: INVPCID 2, a global", GUEST, linear(5, 2, 1, 0, 0), invpcid(2, 1, 0), 10, 0),
         gives("why: MOV to CR3, the old PCID", GUEST, A, mov_to_cr3(2), 6, 0),
         gives("why: MOV to CR3, a global of the new PCID", GUEST, linear(5, 2, 1, 0, 0), mov_to_cr3(2), 9, 0),
+        gives("why: INVEPT 1, a bad EPTP", ROOT, G, invept(1, 0x123456709E, 0), 1, 8).by(4),
+        gives("why: entry with VPID 0 and a bad EPTP", ROOT, A, entry(1, 0, 1, 0x123456709E, 1, 0), 1, 10),
         gives("why: MOV to CR3, a structure cache of the new PCID", GUEST, linear_structure(5, 2, 1, 0), mov_to_cr3(2), 10, 0),
     ]
 }

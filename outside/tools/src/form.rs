@@ -37,9 +37,10 @@ pub fn files() -> Files {
         let after: Vec<String> = step.after.iter().map(u64::to_string).collect();
         let _ = writeln!(
             stdout,
-            "{}: {} {} {} {} {}",
+            "{}: {} {} {} {} {} {}",
             step.name,
             step.answer,
+            step.rule,
             step.dropped,
             step.new.len(),
             after.join(" "),
@@ -77,8 +78,8 @@ pub fn files() -> Files {
         );
         let _ = writeln!(
             stdout,
-            "{}: {} {} ",
-            reason.name, reason.reason, reason.answer
+            "{}: {} {} {} ",
+            reason.name, reason.reason, reason.answer, reason.rule
         );
     }
     Files { stdin, stdout }

@@ -22,12 +22,12 @@ fn the_form_of_a_card() {
     let event = [&[16, 1, 0, 0, 0, 0, 0, 0, 0, 5][..], &[0; 15]].concat();
     assert_eq!(rest[34..34 + 25], event);
     assert!(files.stdout.starts_with(
-        "A, G; INVVPID 1, VPID 5: 0 1 17 16497073209664 52 0 0 1 0 0 0 \
+        "A, G; INVVPID 1, VPID 5: 0 0 1 17 16497073209664 52 0 0 1 0 0 0 \
          0267452301000010000000002000000000eeeeeeee"
     ));
     let lookup = "\nA at 12345678h: 0 0 17 010500010000004523010000debc0a0000\n";
     assert!(files.stdout.contains(lookup));
-    assert!(files.stdout.contains("\nwhy: reset: 10 0 \n"));
+    assert!(files.stdout.contains("\nwhy: reset: 10 0 0 \n"));
 }
 
 /// Every answer and every reason has a card, and no two cards share a name.

@@ -1,12 +1,10 @@
--- `is_good_eptp` tests what its definition says, the width by its callee. Bits 2:0 are a
--- quotient by 1.
-use native.Mathlib.Nat.{div-one}
+-- The rule is 0 exactly if the EPTP is good.
+use Rattle.laws.specs.Rules.{eptp-rule-good}
 use Rattle.grounds.proofs.is_good_eptp.Statement.{statement}
 use Rattle.grounds.proofs.is_good_eptp.Tie as tie
 
 returns : tie.Need-returns
-unfolding Rattle.model.specs.Answers.good-eptp
-returns c = rw (div-one, c .is-within-width .ensures)
+returns c = rw (c .eptp-rule .ensures) (eptp-rule-good _ _)
 
 pub is-good-eptp-spec : {M : Type 1} → statement M
 is-good-eptp-spec = tie.close (tie.spec (λ c κs. tt) returns)

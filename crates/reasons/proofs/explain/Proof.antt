@@ -6,11 +6,11 @@ use native.Mathlib.Omega.{arith}
 use borrow.Author.Needs.{needs}
 use borrow.Author.Tests.{not-true, not-false}
 use denote.Ref.{now}
-use Rattle.model.specs.declared.Explanation.the-variants.{Accepted}
+use Rattle.model.specs.declared.Explanation.the-variants.{Refused, Accepted}
 use Rattle.model.specs.Context.{in-range}
 use Rattle.model.specs.Mappings.{mapping, record-length}
 use Rattle.model.specs.Events.{event, valid-event}
-use Rattle.model.specs.Answers.{event-answer}
+use Rattle.model.specs.Answers.{event-answer, rule-with}
 use Rattle.model.specs.Reasons.{one-record, reason}
 use Rattle.laws.specs.Mappings.{held-record-length}
 use Rattle.laws.specs.Events.{valid-event-read, valid-event-invalid}
@@ -19,6 +19,7 @@ use Rattle.reasons.proofs.explain.Statement.{statement}
 use Rattle.reasons.proofs.explain.Tie as tie
 
 returns : tie.Need-returns
+unfolding rule-with
 returns c =
     let a = c .before .before .before .before .args in
     let out = sym (c .before .is-in-range .ensures) ∙ not-true _ (c .if1 .taken) in
@@ -29,6 +30,7 @@ fit : (c : tie.Else1) → in-range (c .before .before .before .before .args .c) 
 fit c = sym (c .before .is-in-range .ensures) ∙ not-false _ (c .if1 .left)
 
 returns-2 : tie.Need-returns-2
+unfolding rule-with
 returns-2 c =
     let a = c .before .before .before .before .before .before .args in
     let none = one-record-none (now (a .bytes)) (sym (c .before .length-of-record .ensures) ∙ c .if2 .taken) in
@@ -41,6 +43,7 @@ some : (c : tie.Else2) → 0 < record-length (now (c .before .before .before .be
 some c = omega (arith, c .before .length-of-record .ensures, c .if2 .left)
 
 returns-3 : tie.Need-returns-3
+unfolding rule-with
 returns-3 c =
     let a = c .before .before .before .before .before .before .before .args in
     let none = one-record-other (now (a .bytes)) (some (c .before)) (λ same. c .if3 .taken (c .before .before .length-of-record .ensures ∙ same)) in
@@ -53,6 +56,7 @@ one : (c : tie.Else3) → one-record (now (c .before .before .before .before .be
 one c = one-record-made _ (some (c .before)) (sym (c .before .before .length-of-record .ensures) ∙ c .if3 .left)
 
 returns-4 : tie.Need-returns-4
+unfolding rule-with
 returns-4 c =
     let a = c .before .before .before .before .before .before .before .before .before .before .args in
     let c3 = c .before .before .before in
@@ -75,14 +79,18 @@ told : (c : tie.After-answer-to-event)
 told c = c .answer-to-event .ensures ∙ ap (event-answer _) (valid (c .before) .1)
 
 returns-5 : tie.Need-returns-5
+unfolding rule-with
 returns-5 c =
-    let a = c .before .before .before .before .before .before .before .before .before .before .before .before .before .args in
-    let c3 = c .before .before .before .before .before .before in
-    let is = told (c .before) in
-    explanation-refused (a .c) (now (a .bytes)) (now (a .event)) _
-    (explained-event (a .c) (now (a .bytes)) (now (a .event)) (fit (c3 .before .before .before)) (one c3) (valid (c .before .before) .0) (λ z. c .if4 .taken (is ∙ z))
+    let c4 = c .before in
+    let a = c4 .before .before .before .before .before .before .before .before .before .before .before .before .before .args in
+    let c3 = c4 .before .before .before .before .before .before in
+    let is = told (c4 .before) in
+    let event = valid (c4 .before .before) in
+    ap (Refused (c4 .before .answer-to-event .result)) (rw (event .1) at (c .rule-with-answer .ensures))
+    ∙ explanation-refused (a .c) (now (a .bytes)) (now (a .event)) _
+    (explained-event (a .c) (now (a .bytes)) (now (a .event)) (fit (c3 .before .before .before)) (one c3) (event .0) (λ z. c4 .if4 .taken (is ∙ z))
     ∙ sym is)
-    (c .if4 .taken)
+    (c4 .if4 .taken)
 
 reason-requires : tie.Need-reason-requires
 reason-requires c κs = held-record-length _ (some (c .before .before .before .before .before .before .before))
@@ -111,6 +119,7 @@ explain-spec =
     (λ c. search needs)
     (λ c. search needs)
     returns-4
+    (λ c κs. tt)
     (λ c κs. tt)
     returns-5
     reason-requires

@@ -11,6 +11,7 @@ use Rattle.model.specs.Tables.{only, count}
 use Rattle.model.specs.Events.{event}
 use Rattle.model.specs.Scopes.{next-context}
 use Rattle.model.specs.Steps.{in-scope}
+use Rattle.model.specs.Answers.{rule-with}
 use Rattle.runs.specs.Book.{Note, taken-by, stands, standing, lost, Book, book-answer, added, book-after, book-report}
 use Rattle.laws.specs.Lists.{cond-append}
 use Rattle.laws.specs.Steps.{creation}
@@ -92,13 +93,14 @@ pub book-report-accepted : (b : Book) (e : List ℕ) → book-answer b e ≡ 0
     → book-report b e
     ≡ record {
       answer = 0;
+      rule = 0;
       dropped = count (λ r. in-scope (b .context) e r) (standing (b .notes));
       context = next-context (b .context) (event e);
     }
-unfolding book-report book-after added
+unfolding book-report book-after added rule-with
 book-report-accepted b e h = rw (h, lost-one)
 
 pub book-report-refused : (b : Book) (e : List ℕ) → (book-answer b e ≡ 0 → ⊥)
-    → book-report b e ≡ record { answer = book-answer b e; dropped = 0; context = b .context }
+    → book-report b e ≡ record { answer = book-answer b e; rule = rule-with (b .context) e (book-answer b e); dropped = 0; context = b .context }
 unfolding book-report book-after added
 book-report-refused b e h = rw (ne-eqb (book-answer b e) 0 h, lost-none)

@@ -1,6 +1,6 @@
 -- One step of a run, by its answer, and what every step keeps.
 use Prim.Native.Nat.{ℕ, zero, suc, min, _+_, _≤_}
-use mathlib.Core.Path.{_≡_, refl, sym, _∙_}
+use mathlib.Core.Path.{_≡_, refl, sym, ap, _∙_}
 use mathlib.Core.Bool.{Bool, true, false}
 use mathlib.Core.List.{List}
 use native.Mathlib.Omega.{arith}
@@ -12,7 +12,8 @@ use Rattle.model.specs.Tables.{limit, whole, joined}
 use Rattle.model.specs.Events.{event, valid-event}
 use Rattle.model.specs.Scopes.{next-context}
 use Rattle.model.specs.Layouts.{kind-of, mapping-kind}
-use Rattle.model.specs.Answers.{answer, created, no-room}
+use Rattle.model.specs.declared.Step.{Step}
+use Rattle.model.specs.Answers.{answer, rule-with, created, no-room}
 use Rattle.model.specs.Steps.{new-table, dropped-count, accepted-step, refused-step, written}
 use Rattle.runs.specs.Runs.{Run, started, run-answer, run-written, run-after, run-report}
 use Rattle.laws.specs.Tables.{joined-whole}
@@ -57,6 +58,7 @@ pub run-report-accepted : (s : Run) (e : List ℕ) → run-answer s e ≡ 0
     → run-report s e
     ≡ record {
       answer = 0;
+      rule = 0;
       dropped = dropped-count (s .context) (s .table) e;
       context = next-context (s .context) (event e);
     }
@@ -65,10 +67,17 @@ run-report-accepted s e h =
     rw (stepped-accepted (s .context) (s .table) e (length (s .back)) (sym (run-answer-is s e) ∙ h), h)
 
 pub run-report-refused : (s : Run) (e : List ℕ) → (run-answer s e ≡ 0 → ⊥)
-    → run-report s e ≡ record { answer = run-answer s e; dropped = 0; context = s .context }
-unfolding run-report run-answer refused-step
+    → run-report s e ≡ record { answer = run-answer s e; rule = rule-with (s .context) e (run-answer s e); dropped = 0; context = s .context }
+unfolding run-report refused-step
 run-report-refused s e h =
-    rw (stepped-refused (s .context) (s .table) e (length (s .back)) (λ z. h (run-answer-is s e ∙ z)))
+    let refused = stepped-refused (s .context) (s .table) e (length (s .back)) (λ z. h (run-answer-is s e ∙ z)) in
+    let rule = ap (λ (x : Step). x .rule) refused ∙ ap (rule-with (s .context) e) (sym (run-answer-is s e)) in
+    λ i. record {
+      answer = run-answer s e;
+      rule = rule i;
+      dropped = ap (λ (x : Step). x .dropped) refused i;
+      context = ap (λ (x : Step). x .context) refused i;
+    }
 
 -- what holds of a run at every time: its table is whole and within the limit
 pub record Tabled (s : Run) : Type 0 where

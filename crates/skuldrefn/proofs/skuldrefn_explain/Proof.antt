@@ -18,9 +18,9 @@ known c = sym (c .before .is-known .ensures) ∙ not-false _ (c .if1 .left)
 returns-2 : tie.Need-returns-2
 unfolding flat-explanation
 returns-2 c =
-    let why = c .before .before in
+    let why = c .before .before .before in
     rw (known (why .before .before), ← why .before .context-of .ensures, ← why .explain .ensures)
-    (λ i. record { reason = c .before .number .ensures i; answer = c .answer .ensures i })
+    (λ i. record { reason = c .before .before .number .ensures i; answer = c .before .answer .ensures i; rule = c .rule .ensures i })
 
 pub skuldrefn-explain-spec : {M : Type 1} → statement M
-skuldrefn-explain-spec = tie.close (tie.spec (λ c κs. tt) returns (λ c κs. tt) (λ c κs. tt) (λ c κs. tt) (λ c κs. tt) returns-2)
+skuldrefn-explain-spec = tie.close (tie.spec (λ c κs. tt) returns (λ c κs. tt) (λ c κs. tt) (λ c κs. tt) (λ c κs. tt) (λ c κs. tt) returns-2)

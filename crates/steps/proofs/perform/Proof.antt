@@ -41,7 +41,7 @@ returns c =
     let filter = c .before .before .before .before .before .before .before .filter-counted .ensures in
     let context = c .next-context .ensures ∙ ap (next-context (a .c)) (s .pre .0) in
     let dropped = filter .dropped ∙ sym (dropped-count-scoped (a .c) (now (a .table)) (now (a .raw)) (s .pre .0)) in (
-      accepted-step-is (a .c) (now (a .table)) (now (a .raw)) refl context (size (c .before .before .before)) dropped,
+      accepted-step-is (a .c) (now (a .table)) (now (a .raw)) refl refl context (size (c .before .before .before)) dropped,
       rw (c .before .before .before .add-creation .ensures .1, filter .size, filter .buffer, put-put-front, parts (c .before .before .before)),
     )
 

@@ -1,10 +1,9 @@
+-- The fields as they were given.
 use mathlib.Core.Path.{refl}
-use Rattle.model.specs.Steps.{refused-step}
 use Rattle.steps.proofs.refused.Statement.{statement}
 use Rattle.steps.proofs.refused.Tie as tie
 
 returns : tie.Need-returns
-unfolding refused-step
 returns c = refl
 
 pub refused-spec : {M : Type 1} → statement M

@@ -1,7 +1,7 @@
 -- Each refusal gives the number of its stage, and what is left is performed.
 use borrow.Author.Needs.{needs}
 use mathlib.Core.Bool.{true, cond}
-use mathlib.Core.Path.{_≡_, sym, ap, _∙_}
+use mathlib.Core.Path.{_≡_, refl, sym, ap, _∙_}
 use native.Mathlib.Omega.{arith}
 use denote.Ref.{now}
 use lib.ListN.{length}
@@ -14,9 +14,10 @@ use Rattle.steps.proofs.step_judged.Statement.{statement}
 use Rattle.steps.proofs.step_judged.Tie as tie
 
 returns : tie.Need-returns
+unfolding Rattle.model.specs.Answers.rule-with
 returns c =
     let invalid = valid-event-invalid _ (sym (c .before .before .before .read-event .ensures) ∙ c .before .enum-told .given .1) in
-    step-refused _ _ _ _ (answer-of-invalid _ _ _ _ (c .before .before .before .before .before .before .before .pre .0) invalid) (λ z. omega arith) (c .refused .ensures)
+    step-refused _ _ _ _ (answer-of-invalid _ _ _ _ (c .before .before .before .before .before .before .before .pre .0) invalid) (λ z. omega arith) refl (c .refused .ensures)
 
 -- the event is valid, and read
 read : (c : tie.After-known-told)
@@ -29,10 +30,13 @@ told : (c : tie.After-answer-to-event)
 told c = c .answer-to-event .ensures ∙ ap (event-answer (c .before .before .before .before .before .before .before .before .args .c)) (read (c .before) .1)
 
 returns-2 : tie.Need-returns-2
+unfolding Rattle.model.specs.Answers.rule-with
 returns-2 c =
-    let some = c .before .if1 .taken in
-    let is = told (c .before .before) in
-    step-refused _ _ _ _ (answer-of-event _ _ _ _ (c .before .before .before .before .before .before .before .before .before .before .pre .0) (read (c .before .before .before) .0) (λ z. some (is ∙ z)) ∙ sym is) some (c .refused2 .ensures)
+    let some = c .before .before .if1 .taken in
+    let is = told (c .before .before .before) in
+    let event = read (c .before .before .before .before) in
+    step-refused _ _ _ _ (answer-of-event _ _ _ _ (c .before .before .before .before .before .before .before .before .before .before .before .pre .0) (event .0) (λ z. some (is ∙ z)) ∙ sym is) some
+    (rw (← event .1) (c .before .rule-with-answer .ensures)) (c .refused2 .ensures)
 
 -- the answer, where only room is left to judge
 last : (c : tie.After-is-without-room)
@@ -43,7 +47,8 @@ last c =
     (answer-of-room _ _ _ _ (c .before .before .before .before .before .before .before .before .before .before .pre .0) (read (c .before .before .before) .0) (sym (told (c .before .before)) ∙ c .before .if1 .left))
 
 returns-3 : tie.Need-returns-3
-returns-3 c = step-refused _ _ _ _ (last (c .before .before) ∙ rw (c .before .if2 .taken)) (λ z. omega arith) (c .refused3 .ensures)
+unfolding Rattle.model.specs.Answers.rule-with
+returns-3 c = step-refused _ _ _ _ {n = 12} (last (c .before .before) ∙ rw (c .before .if2 .taken)) (λ z. omega arith) refl (c .refused3 .ensures)
 
 perform-requires : tie.Need-perform-requires
 perform-requires c κs =
@@ -65,6 +70,7 @@ step-judged-spec =
     (λ c. search needs)
     (λ c κs. search needs)
     returns
+    (λ c κs. search needs)
     (λ c κs. search needs)
     (λ c κs. search needs)
     returns-2

@@ -195,9 +195,12 @@ pub fn run_into(context: &Context, table: &[u8], event: &[u8], room: usize) -> (
     assert_eq!(step, tuned::step(context, table, event, &mut other));
     assert_eq!(new, other);
     assert!(new[step.length..].iter().all(|byte| *byte == 0xA5));
+    let rule = step.rule;
     if step.answer != 0 {
-        assert_eq!(step, Step::refused(step.answer, context));
+        let refused = Step::refused(step.answer, context);
+        assert_eq!(step, Step { rule, ..refused });
     }
+    assert!(rule == 0 || step.answer == 8 || step.answer == 10);
     new.truncate(step.length);
     (step, new)
 }

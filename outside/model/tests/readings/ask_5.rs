@@ -447,8 +447,8 @@ fn runs_with_both_kinds_against_the_book() {
                 let mut new = vec![0; TABLE_LIMIT];
                 let step = step(&context, &table, &event, &mut new);
                 let verdict = book.feed(&event);
-                let got = (step.answer, step.dropped);
-                let due = (verdict.answer, verdict.dropped);
+                let got = (step.answer, step.rule, step.dropped);
+                let due = (verdict.answer, verdict.rule, verdict.dropped);
                 let shown = || format!("seed {SEED}, run {number}: {}", hex(&event));
                 assert_eq!(got, due, "{}", shown());
                 if step.answer == 0 {

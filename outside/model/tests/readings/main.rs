@@ -7,6 +7,7 @@ mod common;
 mod answers;
 mod ask_2;
 mod ask_5;
+mod ask_6;
 mod contexts;
 mod events;
 mod lookups;
