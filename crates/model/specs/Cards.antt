@@ -321,6 +321,11 @@ answered =
     ∷ refuses root A (invvpid 1 (5 + 2 ^ 63) 0) 8
     ∷ refuses root A (invvpid 1 0 0) 8
     ∷ refuses root A (invvpid 3 0 0) 8
+    -- each of bits 63 to 47 counts
+    ∷ refuses root A (invvpid 0 5 (2 ^ 63)) 8
+    ∷ refuses root A (invvpid 0 5 (2 ^ 63 - 1)) 8
+    ∷ refuses root A (invvpid 0 5 0xFFFF7FFFFFFFFFFF) 8
+    ∷ refuses root A (invvpid 0 5 0x0001000000000000) 8
     ∷ refuses (at (program - 2 ^ 40) 52 0 0 Root) A (invvpid 0 5 0) 8
     ∷ refuses (at (program - 2 ^ 41) 52 0 0 Root) A (invvpid 1 5 0) 8
     ∷ refuses (at (program - 2 ^ 42) 52 0 0 Root) A (invvpid 2 5 0) 8
