@@ -78,7 +78,8 @@ enum {
  * the address; the low half of INVEPT's descriptor is the EPTP, its high half 0.
  *
  * Kind 24 invalidates nothing, as MOV to CR3 with bit 63 set. Kind 27 is MOV to CR3
- * with that bit clear, which drops the new PCID's mappings, except global ones.
+ * with that bit clear, which drops the mappings of the current VPID and the new
+ * PCID, except global ones.
  */
 enum {
     SKULDREFN_KIND_INVVPID = 16, /* 25: type 1, low half 9, high half 17 */

@@ -1,4 +1,4 @@
-// The cards of document 01, its five mistakes and the reasons of document 02, run on the code. They come
+// The cards of document 01, its five mistakes and the cards of document 02, run on the code. They come
 // from standard input, the file stdin, and what is expected, the file stdout, was written from the
 // documents; outside/tools has the format. Each line is a card's name, then of a step the answer, the rule
 // of the EPTP, the dropped count, the length, the context's eight numbers and the new buffer, which held ee in every byte;

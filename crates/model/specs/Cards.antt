@@ -133,7 +133,7 @@ A = 0x01 ∷ 0x05 ∷ 0x00 ∷ 0x01 ∷ 0x00 ∷ 0x00 ∷ 0x00 ∷ 0x45 ∷ 0x23
 G : List ℕ
 G = 0x02 ∷ 0x67 ∷ 0x45 ∷ 0x23 ∷ 0x01 ∷ 0x00 ∷ 0x00 ∷ 0x10 ∷ 0x00 ∷ 0x00 ∷ 0x00 ∷ 0x00 ∷ 0x20 ∷ 0x00 ∷ 0x00 ∷ 0x00 ∷ 0x00 ∷ []
 
--- an event in root with an empty table: its answer, and the rule of its EPTP (document 02, Ask 6), which the
+-- an event on an empty table: its answer, and the rule of its EPTP (document 02, Ask 6), which the
 -- explanation of G names too
 record Ruled : Type 0 where
   context : Context
@@ -556,6 +556,7 @@ by-pcid =
     ∷ moves (guest 5) (A ++ linear 5 2 0 0 0 ++ linear 5 2 1 0 0) (mov-to-cr3 2) 1 (A ++ linear 5 2 1 0 0) (at program 52 2 0 (Guest (record { vpid = 5; ept = Off })))
     ∷ moves (ept-guest 5) (combined-structure 5 2 3 0 ++ linear 6 2 0 0 0) (mov-to-cr3 2) 1 (linear 6 2 0 0 0) (at program 52 2 0 (Guest (record { vpid = 5; ept = On 0x1234567 })))
     ∷ moves (guest 5) A (mov-to-cr3 1) 1 [] (guest 5)
+    ∷ moves (guest 5) (combined 5 2 0 0 7 ++ linear 5 3 0 0 0) (mov-to-cr3 2) 1 (linear 5 3 0 0 0) (at program 52 2 0 (Guest (record { vpid = 5; ept = Off })))
     ∷ []
 
 tells-rule : Context → List ℕ → ℕ → ℕ → Ruled
@@ -568,7 +569,9 @@ by-rule =
     ∷ tells-rule root (invept 1 0x1234567019 0) 8 1
     ∷ tells-rule (at (program - 2 ^ 8) 52 0 0 Root) (invept 1 0x1234567018 0) 8 1
     ∷ tells-rule (at (program - 2 ^ 14) 52 0 0 Root) (invept 1 0x123456701E 0) 8 1
+    ∷ tells-rule root (invept 1 0x123456701C 0) 8 1
     ∷ tells-rule root (invept 1 0x1234567016 0) 8 2
+    ∷ tells-rule root (invept 1 0x123456703E 0) 8 2
     ∷ tells-rule (at (program - 2 ^ 6) 52 0 0 Root) (invept 1 0x123456701E 0) 8 2
     ∷ tells-rule (at without-21 52 0 0 Root) (invept 1 0x123456705E 0) 8 3
     ∷ tells-rule root (invept 1 (0x123456701E + 2 ^ 7) 0) 8 4
@@ -592,6 +595,7 @@ by-rule =
     -- a VM entry: VPID 0 goes first; a disabled EPTP is not looked at
     ∷ tells-rule root (vm-entry 0 0 1 0x1234567019 1 0) 10 1
     ∷ tells-rule root (vm-entry 1 5 1 0x123456709E 1 0) 10 4
+    ∷ tells-rule root (vm-entry 1 7 1 0x123456709E 9 3) 10 4
     ∷ tells-rule root (vm-entry 1 0 1 0x123456709E 1 0) 10 0
     ∷ tells-rule root (vm-entry 1 0 0 0 1 0) 10 0
     ∷ tells-rule root (vm-entry 1 5 0 0x123456709E 1 0) 0 0

@@ -1,4 +1,5 @@
--- Rows about the records of a VPID and of an EP4TA (document 02, Ask 14), all under one statement.
+-- Rows about the records of a VPID and of an EP4TA (document 02, Ask 14), and about what two runs are compared by, all
+-- under one statement.
 use Prim.Native.Nat.{ℕ}
 use mathlib.Core.Bool.{Bool, true, not, _&&_}
 use mathlib.Core.List.{List, [], _∷_, _++_}
@@ -6,6 +7,10 @@ use mathlib.Core.Path.{_≡_, refl}
 use Rattle.model.specs.Bits.{bytes}
 use Rattle.model.specs.Layouts.{kind-of, body-of, field}
 use Rattle.model.specs.Mappings.{mapping, linear, guest-physical, combined}
+use Rattle.model.specs.declared.Context.{Context}
+use Rattle.model.specs.declared.Place.the-variants.{Root}
+use Rattle.runs.specs.Book.{Report}
+use Rattle.runs.specs.Runs.{verdict}
 use Rattle.runs.specs.Apart.{of-vpid, of-ep4ta}
 
 -- a record of a kind whose other bytes are those of two tags: VPID 5 and PCID 6 at the front, or EP4TA 7; and EP4TA
@@ -41,7 +46,18 @@ ep4tas =
     && not (of-ep4ta 0 (by-vpid 1 (0 ∷ 0 ∷ [])))
     && not (of-ep4ta 0 (by-vpid 4 (1 ∷ [])))
 
+-- a report whose numbers differ, and what is compared of it
+context : Context
+context = record { capability = 11; width = 12; pcid = 13; cpl = 14; place = Root }
+
+report : Report
+report = record { answer = 21; rule = 22; dropped = 23; context = context }
+
 -- Every row holds.
-cards-hold : (vpids && ep4tas) ≡ true
-unfolding by-vpid by-ep4ta vpids ep4tas of-vpid of-ep4ta bytes kind-of body-of field mapping linear guest-physical combined
-cards-hold = refl
+record Rows : Type 0 where
+  tags : (vpids && ep4tas) ≡ true
+  compared : verdict report ≡ record { answer = 21; rule = 22; context = context }
+
+cards-hold : Rows
+unfolding context report verdict by-vpid by-ep4ta vpids ep4tas of-vpid of-ep4ta bytes kind-of body-of field mapping linear guest-physical combined
+cards-hold = record { tags = refl; compared = refl }

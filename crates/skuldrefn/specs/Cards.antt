@@ -1,7 +1,7 @@
 -- Rows about results as flat structs, all under one statement. The numbers of a row differ, so that none is taken
 -- for another.
 use Prim.Native.Nat.{ℕ}
-use mathlib.Core.Bool.{true, false}
+use mathlib.Core.Bool.{Bool, true, false}
 use mathlib.Core.List.{[], _∷_}
 use mathlib.Core.Path.{_≡_, refl}
 use Rattle.model.specs.declared.Context.{Context}
@@ -24,8 +24,8 @@ numbers place = record { capability = 11; width = 12; pcid = 13; cpl = 14; place
 told : ℕ → Step
 told answer = record { answer = answer; rule = 4; context = context; length = 21; dropped = 22 }
 
-replay : Replayed
-replay = record { context = context; length = 21; count = 22; first = true }
+replay : Bool → Replayed
+replay first = record { context = context; length = 21; count = 22; first = first }
 
 -- Every row holds.
 record Rows : Type 0 where
@@ -35,7 +35,8 @@ record Rows : Type 0 where
   unwritten : flat-written (numbers 3) [] (25 ∷ []) (7 ∷ []) ≡ 7 ∷ []
   nowhere : flat-lookup (numbers 3) (Linear 0) [] 0 ≡ record { answer = 1; start = 0; length = 0 }
   unexplained : flat-explanation (numbers 3) [] [] ≡ record { reason = 1; answer = 1; rule = 0 }
-  first : flat-replayed replay ≡ record { context = numbers 1; length = 21; first = 1; count = 22 }
+  first : flat-replayed (replay true) ≡ record { context = numbers 1; length = 21; first = 1; count = 22 }
+  second : flat-replayed (replay false) ≡ record { context = numbers 1; length = 21; first = 0; count = 22 }
   begun : flatten (fresh 11 12)
       ≡ record { capability = 11; width = 12; pcid = 0; cpl = 0; place = 0; vpid = 0; ept = 0; ep4ta = 0 }
 
@@ -50,5 +51,6 @@ cards-hold =
       nowhere = refl;
       unexplained = refl;
       first = refl;
+      second = refl;
       begun = refl;
     }

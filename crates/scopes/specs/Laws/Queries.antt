@@ -156,7 +156,7 @@ meets-nothing =
           (λ is. rw (all-kinds (m .kind) known, is, touched-any));
     }
 
--- the three events that touch mappings with a VPID; what is left is asked of these alone
+-- the events that touch mappings with a VPID; what is left is asked of these alone
 meets-with-vpid : (tests : Mapping → Tests) (q : Query)
     → q .kinds ≡ 0x5A
     → ((m : Mapping) → tests m .kind ≡ vpid-tagged m)
