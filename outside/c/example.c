@@ -1,6 +1,6 @@
 /*
  * Document 01's five events as a log, which is cut into its events, one step
- * each; a lookup and a reason between them.
+ * each; a lookup, a conversion and a reason between them.
  *
  *     cc -I outside/c outside/c/example.c target/staticlib/libskuldrefn.a
  */
@@ -29,10 +29,14 @@ static const uint64_t expected[][3] = {{0, 0, 0}, {0, 0, 0}, {0, 0, 17}, {0, 0, 
 /* Two buffers hold the table in force in turn. */
 static uint8_t buffers[2][SKULDREFN_TABLE_LIMIT];
 
+/* A table for 57-bit linear addresses. */
+static uint8_t wide[SKULDREFN_TABLE_LIMIT];
+
 int main(void)
 {
     skuldrefn_context context = {
-        SKULDREFN_PROGRAM_CAPABILITY, SKULDREFN_PROGRAM_WIDTH, 0, 0, SKULDREFN_OUTSIDE, 0, 0, 0};
+        SKULDREFN_PROGRAM_CAPABILITY, SKULDREFN_PROGRAM_WIDTH, SKULDREFN_PROGRAM_LINEAR_WIDTH,
+        0, 0, SKULDREFN_OUTSIDE, 0, 0, 0};
     const uint8_t *event = log_bytes;
     const uint8_t *end = log_bytes + sizeof log_bytes;
     const uint8_t *created = NULL;
@@ -43,7 +47,7 @@ int main(void)
 
     for (size_t i = 0; event < end; i++) {
         size_t left = (size_t)(end - event);
-        size_t event_length = skuldrefn_event_length(event, left);
+        size_t event_length = skuldrefn_event_length(context.linear_width, event, left);
         int is_last = event_length == 0 || event_length > left;
         if (is_last) {
             event_length = left;
@@ -83,6 +87,12 @@ int main(void)
                 && memcmp(buffers[in_force] + part.start, created, created_length) == 0;
             printf("12345678h: %s\n", found ? "the record just created" : "nothing");
             wrong |= !found;
+
+            /* The same table for a guest with 57-bit linear addresses. */
+            skuldrefn_widened widened = skuldrefn_widen(
+                buffers[in_force], length, wide, sizeof wide);
+            printf("at 57 bits: %zu bytes\n", widened.length);
+            wrong |= widened.answer != SKULDREFN_ACCEPTED || wide[0] != SKULDREFN_KIND_LINEAR_57;
         }
         event += event_length;
     }

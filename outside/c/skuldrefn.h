@@ -34,7 +34,7 @@ extern "C" {
 #endif
 
 /* The longest table, in bytes. */
-#define SKULDREFN_TABLE_LIMIT 45056
+#define SKULDREFN_TABLE_LIMIT 47104
 
 /* The longest event, in bytes. */
 #define SKULDREFN_EVENT_LIMIT 25
@@ -44,11 +44,13 @@ extern "C" {
 
 /*
  * What the replay program has: its IA32_VMX_EPT_VPID_CAP, bits 6, 8, 14, 20,
- * 21, 25, 26, 32 and 40 to 43; its physical width N; and the longest log that it
- * reads, in bytes. The functions below take any capability, width and length.
+ * 21, 25, 26, 32 and 40 to 43; its physical width N; its linear width; and the
+ * longest log that it reads, in bytes. The functions below take any capability,
+ * widths and length.
  */
 #define SKULDREFN_PROGRAM_CAPABILITY UINT64_C(0xF0106304140)
 #define SKULDREFN_PROGRAM_WIDTH 52
+#define SKULDREFN_PROGRAM_LINEAR_WIDTH 48
 #define SKULDREFN_LOG_LIMIT 65536
 
 /*
@@ -61,6 +63,12 @@ extern "C" {
  * (0 to 2 for kinds 1 to 3, 1 to 3 for kinds 4 to 6), page 5 (bits 47 to 12 of the
  * address, a multiple of 2^(9 span)), frame and structure 5 (any), EP4TA 5 (bits 51
  * to 12 of the EPTP).
+ *
+ * Kinds 7, 8, 9 and 10 are kinds 1, 3, 4 and 6 for linear addresses of 57 bits, and
+ * all that is said of those holds of them; their page has 6 bytes (bits 56 to 12 of
+ * the address), and kinds 9 and 10 may have span 4. At linear width 48 they are
+ * refused, and at 57 kinds 1, 3, 4 and 6 are: answer 3 in a table, 4 as an event.
+ * Kinds 2 and 5 are the same at both.
  */
 enum {
     SKULDREFN_KIND_LINEAR = 1, /* 17: VPID 1, PCID 3, global 5, span 6, page 7, frame 12 */
@@ -68,7 +76,11 @@ enum {
     SKULDREFN_KIND_COMBINED = 3, /* 22: VPID 1, PCID 3, global 5, span 6, page 7, frame 12, EP4TA 17 */
     SKULDREFN_KIND_LINEAR_STRUCTURE = 4, /* 16: VPID 1, PCID 3, span 5, page 6, structure 11 */
     SKULDREFN_KIND_GUEST_PHYSICAL_STRUCTURE = 5, /* 17: EP4TA 1, span 6, page 7, structure 12 */
-    SKULDREFN_KIND_COMBINED_STRUCTURE = 6 /* 21: VPID 1, PCID 3, span 5, page 6, structure 11, EP4TA 16 */
+    SKULDREFN_KIND_COMBINED_STRUCTURE = 6, /* 21: VPID 1, PCID 3, span 5, page 6, structure 11, EP4TA 16 */
+    SKULDREFN_KIND_LINEAR_57 = 7, /* 18: VPID 1, PCID 3, global 5, span 6, page 7, frame 13 */
+    SKULDREFN_KIND_COMBINED_57 = 8, /* 23: VPID 1, PCID 3, global 5, span 6, page 7, frame 13, EP4TA 18 */
+    SKULDREFN_KIND_LINEAR_STRUCTURE_57 = 9, /* 17: VPID 1, PCID 3, span 5, page 6, structure 12 */
+    SKULDREFN_KIND_COMBINED_STRUCTURE_57 = 10 /* 22: VPID 1, PCID 3, span 5, page 6, structure 12, EP4TA 17 */
 };
 
 /*
@@ -98,13 +110,13 @@ enum {
 
 /*
  * The answers. The lowest number that applies is given, and only then.
- * skuldrefn_step gives 0 to 12, a lookup 0 to 3. A refusal that
- * skuldrefn_explain names is 1 or 3 to 11.
+ * skuldrefn_step gives 0 to 12, a lookup 0 to 3, skuldrefn_widen 0, 2, 3 or 12.
+ * A refusal that skuldrefn_explain names is 1 or 3 to 11.
  */
 enum {
     SKULDREFN_ACCEPTED = 0,      /* none of the others applies */
     SKULDREFN_BAD_CONTEXT = 1,   /* a context field is out of its range */
-    SKULDREFN_LONG_TABLE = 2,    /* the table is longer than 45,056 bytes */
+    SKULDREFN_LONG_TABLE = 2,    /* the table is longer than 47,104 bytes */
     SKULDREFN_BAD_TABLE = 3,     /* the table is not whole, valid records */
     SKULDREFN_BAD_EVENT = 4,     /* the event is not exactly one valid record */
     SKULDREFN_UD = 5,            /* #UD: INVVPID, INVEPT, VM entry or VMXOFF
@@ -122,9 +134,10 @@ enum {
     SKULDREFN_BAD_ENTRY = 10,    /* VM entry: VPIDs enabled with VPID 0, or EPT
                                     enabled with a bad EPTP */
     SKULDREFN_NOT_CREATABLE = 11, /* a mapping that cannot be created here */
-    SKULDREFN_NO_ROOM = 12       /* the new buffer, or 45,056, is less than the
+    SKULDREFN_NO_ROOM = 12       /* the new buffer, or 47,104, is less than the
                                     old table's length, plus the record's for
-                                    a creation */
+                                    a creation; or than the new table's, for
+                                    skuldrefn_widen */
 };
 
 /*
@@ -154,16 +167,21 @@ enum {
  * fields are looked at in a guest only, and ep4ta with ept 1 only. What is out
  * of its range, and a place or ept number other than those named here, is
  * answered 1.
+ *
+ * The linear width says which linear addresses are canonical (bits 63 to 47, or
+ * 63 to 56, all equal), which bits of one are its page, and which kinds of
+ * records there are. No event changes it.
  */
 typedef struct {
-    uint64_t capability; /* IA32_VMX_EPT_VPID_CAP, any number */
-    uint64_t width;      /* the physical width N, 36 to 52 */
-    uint64_t pcid;       /* 0 to 4,095 */
-    uint64_t cpl;        /* 0 to 3 */
-    uint64_t place;      /* 0 outside VMX, 1 root, 2 guest */
-    uint64_t vpid;       /* 0 to 65,535; 0 if VPIDs are not enabled */
-    uint64_t ept;        /* 0 off, 1 on */
-    uint64_t ep4ta;      /* below 2^40: bits 51 to 12 of the EPTP */
+    uint64_t capability;   /* IA32_VMX_EPT_VPID_CAP, any number */
+    uint64_t width;        /* the physical width N, 36 to 52 */
+    uint64_t linear_width; /* 48 or 57 */
+    uint64_t pcid;         /* 0 to 4,095 */
+    uint64_t cpl;          /* 0 to 3 */
+    uint64_t place;        /* 0 outside VMX, 1 root, 2 guest */
+    uint64_t vpid;         /* 0 to 65,535; 0 if VPIDs are not enabled */
+    uint64_t ept;          /* 0 off, 1 on */
+    uint64_t ep4ta;        /* below 2^40: bits 51 to 12 of the EPTP */
 } skuldrefn_context;
 
 /* What a step reports. */
@@ -182,7 +200,7 @@ typedef struct {
  * table, table_length: the old table; it is only read.
  * event, event_length: the event; it is only read.
  * new_table, new_length: where the new table is written, from the start.
- * Bytes past its length stay as they were. A buffer of 45,056 bytes is always
+ * Bytes past its length stay as they were. A buffer of 47,104 bytes is always
  * enough.
  *
  * With answer 0 the new table is in new_table[0 .. length - 1], and the
@@ -252,7 +270,7 @@ typedef struct {
 
 /*
  * Why an event takes a record or leaves it. The step is judged with a table of
- * that record alone and a new buffer of 45,056 bytes; bytes that are not
+ * that record alone and a new buffer of 47,104 bytes; bytes that are not
  * exactly one valid record are answered 3. Record and event are only read.
  */
 skuldrefn_reason skuldrefn_explain(
@@ -262,13 +280,14 @@ skuldrefn_reason skuldrefn_explain(
 
 /*
  * How long the first event of a log is, by its kind: the byte of kind and the
- * body. 0 where the log has no byte or the kind is unknown. More than log_length
- * where the record is cut. Of the log only the first byte is read.
+ * body. 0 where the log has no byte or the kind is unknown, as those of the other
+ * linear width are. More than log_length where the record is cut. Of the log only
+ * the first byte is read. Any linear width but 57 is read as 48.
  *
  * So a log is cut into the events that skuldrefn_replay takes: each has this many
  * bytes; from an unknown kind or a cut record on, all that are left.
  */
-size_t skuldrefn_event_length(const uint8_t *log, size_t log_length);
+size_t skuldrefn_event_length(uint64_t linear_width, const uint8_t *log, size_t log_length);
 
 /* What a replay reports. */
 typedef struct {
@@ -284,11 +303,12 @@ typedef struct {
  * A whole log of events end to end, of any length, from a reset: outside VMX,
  * PCID 0, CPL 0, an empty table.
  *
- * capability, width: those of the context; a width out of its range has every
- * event answered 1.
+ * capability, width, linear_width: those of the context; a width out of its
+ * range has every event answered 1. The log is cut as skuldrefn_event_length
+ * says.
  * log, log_length: the log; it is only read.
  * first, second: two buffers for tables, which hold the table in force in
- * turn. With 45,056 bytes each there is all the room that answer 12 allows;
+ * turn. With 47,104 bytes each there is all the room that answer 12 allows;
  * with fewer, less.
  * rows, rows_length: one row of 24 bytes for each event: its answer, its
  * dropped count, and the length of the table in force after it, 8 bytes each,
@@ -296,15 +316,41 @@ typedef struct {
  * log_length is always enough.
  *
  * The replay ends with the log, after an unknown kind or a cut record (which
- * takes all bytes left and is answered 4), or where there is no room for
- * another row.
+ * takes all bytes left and is answered 4, or 1 where a width is out of its
+ * range), or where there is no room for another row.
  */
 skuldrefn_replayed skuldrefn_replay(
-    uint64_t capability, uint64_t width,
+    uint64_t capability, uint64_t width, uint64_t linear_width,
     const uint8_t *log, size_t log_length,
     uint8_t *first, size_t first_length,
     uint8_t *second, size_t second_length,
     uint8_t *rows, size_t rows_length);
+
+/* What the converter reports. */
+typedef struct {
+    uint64_t answer; /* 0, 2, 3 or 12 */
+    size_t length;   /* the new table's length in bytes */
+} skuldrefn_widened;
+
+/*
+ * A stored table of linear width 48 as one of 57: record by record, in order,
+ * kinds 1, 3, 4 and 6 become 7, 8, 9 and 10. A page of the upper half, 2^35 or
+ * more, gains 2^45 - 2^36, so that it stays the page of the same address. All
+ * else stays, kinds 2 and 5 whole.
+ *
+ * table, table_length: the old table; it is only read.
+ * new_table, new_length: where the new table is written, from the start. Bytes
+ * past its length stay as they were. A buffer of 47,104 bytes is always enough
+ * for a table that can be converted.
+ *
+ * The answer is 2 if the table is longer than 47,104 bytes; 3 if it is not whole,
+ * valid records of linear width 48; 12 if the new table is longer than 47,104
+ * bytes or than the buffer; else 0. With another answer than 0 nothing is written
+ * and the length is 0.
+ */
+skuldrefn_widened skuldrefn_widen(
+    const uint8_t *table, size_t table_length,
+    uint8_t *new_table, size_t new_length);
 
 #ifdef __cplusplus
 }

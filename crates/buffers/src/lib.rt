@@ -14,12 +14,13 @@ pub fn put(part: &[u8], out: &mut [u8], at: usize) -> usize
     at + bytes::copy(part, &mut out[at..])
 }
 
-// Writes a number as the eight bytes of the buffer at a position, little-endian.
-pub fn put_number(out: &mut [u8], at: usize, x: u64)
-    requires { ⌜ at + 8 ≤ length (now out) ⌝ }
-    ensures { λ _. ⌜ now (out .exit) ≡ put at (bytes 8 x) (now (out .entry)) ⌝ }
+// Writes a number as so many bytes of the buffer at a position, little-endian, and answers where they end.
+pub fn put_number(out: &mut [u8], at: usize, size: usize, x: u64) -> usize
+    requires { ⌜ at + size ≤ length (now out) ⌝ }
+    ensures { λ r. ⌜ r ≡ at + size ⌝ }
+    ensures { λ _. ⌜ now (out .exit) ≡ put at (bytes size x) (now (out .entry)) ⌝ }
 {
-    let end = at + 8;
+    let end = at + size;
     let mut to = at;
     let mut rest = x;
     while to < end {
@@ -27,4 +28,5 @@ pub fn put_number(out: &mut [u8], at: usize, x: u64)
         rest /= 256;
         to += 1;
     }
+    end
 }

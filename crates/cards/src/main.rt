@@ -1,8 +1,9 @@
 // The cards of document 01, its five mistakes and the cards of document 02, run on the code. They come
 // from standard input, the file stdin, and what is expected, the file stdout, was written from the
 // documents; outside/tools has the format. Each line is a card's name, then of a step the answer, the rule
-// of the EPTP, the dropped count, the length, the context's eight numbers and the new buffer, which held ee in every byte;
-// of a lookup the answer, the start, the length and the part; of a reason its number, its answer and its rule.
+// of the EPTP, the dropped count, the length, the context's nine numbers and the new buffer, which held ee in every byte;
+// of a lookup the answer, the start, the length and the part; of a reason its number, its answer and its rule; of the
+// converter the answer, the length and the new buffer.
 use flat_contexts::FlatContext;
 use libc::STDIN_FILENO;
 use libc::STDOUT_FILENO;
@@ -22,26 +23,28 @@ fn write_number(n: u64) {
     io::write_all(STDOUT_FILENO, b" ");
 }
 
-// The context of a card: eight numbers.
+// The context of a card: nine numbers.
 fn context(s: &[u8]) -> FlatContext
-    requires { ⌜ 64 ≤ length (now s) ⌝ }
+    requires { ⌜ 72 ≤ length (now s) ⌝ }
 {
     FlatContext {
         capability: numbers::number8(s, 0),
         width: numbers::number8(s, 8),
-        pcid: numbers::number8(s, 16),
-        cpl: numbers::number8(s, 24),
-        place: numbers::number8(s, 32),
-        vpid: numbers::number8(s, 40),
-        ept: numbers::number8(s, 48),
-        ep4ta: numbers::number8(s, 56),
+        linear_width: numbers::number8(s, 16),
+        pcid: numbers::number8(s, 24),
+        cpl: numbers::number8(s, 32),
+        place: numbers::number8(s, 40),
+        vpid: numbers::number8(s, 48),
+        ept: numbers::number8(s, 56),
+        ep4ta: numbers::number8(s, 64),
     }
 }
 
-// A context as its eight numbers.
+// A context as its nine numbers.
 fn write_context(c: FlatContext) {
     write_number(c.capability);
     write_number(c.width);
+    write_number(c.linear_width);
     write_number(c.pcid);
     write_number(c.cpl);
     write_number(c.place);
@@ -96,23 +99,32 @@ fn explain(c: FlatContext, bytes: &[u8], event: &[u8]) {
     write_number(why.rule);
 }
 
+// The converter into a buffer of 64 bytes.
+fn widen(table: &[u8]) {
+    let mut new = [238u8; 64];
+    let w = skuldrefn::skuldrefn_widen(table, &mut new);
+    write_number(w.answer);
+    write_number(w.length as u64);
+    write_hex(&new);
+}
+
 // Runs the card at the front and answers how many bytes it takes, or 0 where no whole card is left.
 fn card(s: &[u8]) -> usize
     ensures { λ r. ⌜ r ≤ length (now (s .entry)) ⌝ }
 {
-    if s.len() < 70 {
+    if s.len() < 78 {
         return 0;
     }
     let name_length = numbers::number1(s, 0);
     let table_length = numbers::number2(s, 1);
-    let extra_length = numbers::number2(s, 68);
-    let name_end = 70 + name_length as usize;
+    let extra_length = numbers::number2(s, 76);
+    let name_end = 78 + name_length as usize;
     let table_end = name_end + table_length as usize;
     let end = table_end + extra_length as usize;
     if s.len() < end {
         return 0;
     }
-    io::write_all(STDOUT_FILENO, &s[70..name_end]);
+    io::write_all(STDOUT_FILENO, &s[78..name_end]);
     io::write_all(STDOUT_FILENO, b": ");
     let c = context(&s[4..]);
     let table = &s[name_end..table_end];
@@ -120,6 +132,8 @@ fn card(s: &[u8]) -> usize
     let mode = s[3];
     if mode == 0 {
         step(c, table, extra);
+    } else if mode == 4 {
+        widen(table);
     } else if mode == 3 {
         explain(c, table, extra);
     } else {
@@ -141,7 +155,7 @@ fn run(s: &[u8]) {
 }
 
 fn main() {
-    let mut input = [0u8; 131072];
+    let mut input = [0u8; 262144];
     let n = io::read_full(STDIN_FILENO, &mut input);
     run(&input[..n]);
 }

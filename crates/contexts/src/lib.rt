@@ -37,6 +37,7 @@ pub fn is_in_range(c: Context) -> bool
     let place = c.place;
     (36 <= c.width)
         & (c.width <= 52)
+        & ((c.linear_width == 48) | (c.linear_width == 57))
         & (c.pcid <= model::PCID_MAX)
         & (c.cpl <= 3)
         & is_place_in_range(place)

@@ -94,19 +94,21 @@ fn event_of(e: &[u8], kind: u64) -> Event
     }
 }
 
-// The fields of an event are in their ranges. A creation's are read from its bytes. With flag 0 an EPT violation's
+// The fields of an event are in their ranges, and a creation is of the linear width. A creation's are read from its bytes. With flag 0 an EPT violation's
 // linear address is not looked at, and a disabled VPID or EPT field of a VM entry never is.
-fn is_in_range(e: &[u8], x: Event) -> bool
+fn is_in_range(width: u64, e: &[u8], x: Event) -> bool
     requires { ⌜ length (now e) ≡ length-of (kind-of (now e)) ⌝ }
     requires { ⌜ x ≡ event (now e) ⌝ }
-    ensures { λ r. ⌜ r ≡ event-in-range x ⌝ }
+    ensures { λ r. ⌜ r ≡ event-in-range width x ⌝ }
 {
     match x {
-        Event::Creation(_) => mappings::is_in_ranges(e),
+        Event::Creation(_) => {
+            mappings::is_in_ranges(e) & !kinds::is_of_other_width(width, mappings::kind(e))
+        }
         Event::EptViolation(v) => {
             (v.physical < model::GUEST_PHYSICAL_LIMIT)
                 & (v.flag <= 1)
-                & ((v.flag == 0) | addresses::is_canonical(v.linear))
+                & ((v.flag == 0) | addresses::is_canonical(width, v.linear))
         }
         Event::Entry(n) => {
             (n.vpids <= 1) & (n.ept <= 1) & (n.pcid <= model::PCID_MAX) & (n.cpl <= 3)
@@ -124,10 +126,10 @@ fn is_in_range(e: &[u8], x: Event) -> bool
     }
 }
 
-// The event that the bytes are, or that they are not exactly one valid record: no bytes, an unknown kind, a
-// byte too few or too many and a field out of its range are all invalid.
-pub fn read_event(e: &[u8]) -> EventReading
-    ensures { λ r. ⌜ r ≡ event-reading (now (e .entry)) ⌝ }
+// The event that the bytes are at a linear width, or that they are not exactly one valid record: no bytes, an unknown
+// kind, a creation of the other width, a byte too few or too many and a field out of its range are all invalid.
+pub fn read_event(width: u64, e: &[u8]) -> EventReading
+    ensures { λ r. ⌜ r ≡ event-reading width (now (e .entry)) ⌝ }
 {
     let kind = kind_of(e);
     let size = e.len();
@@ -135,7 +137,7 @@ pub fn read_event(e: &[u8]) -> EventReading
         return EventReading::Invalid;
     }
     let x = event_of(e, kind);
-    if is_in_range(e, x) {
+    if is_in_range(width, e, x) {
         return EventReading::Read(x);
     }
     EventReading::Invalid

@@ -10,14 +10,14 @@ use Rattle.model.specs.declared.Ept.the-variants.{Off, On}
 use Rattle.flat_contexts.specs.declared.FlatContext.{FlatContext}
 use Rattle.flat_contexts.specs.Contexts.{is-known, unflatten, flatten}
 
--- capability 11, N = 12, PCID 13 and CPL 14, with a place as a number
+-- capability 11, N = 12, linear width 18, PCID 13 and CPL 14, with a place as a number
 numbers : ℕ → ℕ → ℕ → ℕ → FlatContext
 numbers place vpid ept ep4ta =
-    record { capability = 11; width = 12; pcid = 13; cpl = 14; place = place; vpid = vpid; ept = ept; ep4ta = ep4ta }
+    record { capability = 11; width = 12; «linear_width» = 18; pcid = 13; cpl = 14; place = place; vpid = vpid; ept = ept; ep4ta = ep4ta }
 
 -- and with a place
 context : Place → Context
-context place = record { capability = 11; width = 12; pcid = 13; cpl = 14; place = place }
+context place = record { capability = 11; width = 12; «linear_width» = 18; pcid = 13; cpl = 14; place = place }
 
 -- fields that the place lacks may hold anything
 known : Bool

@@ -19,6 +19,7 @@ unflatten c =
     record {
       capability = c .capability;
       width = c .width;
+      «linear_width» = c .«linear_width»;
       pcid = c .pcid;
       cpl = c .cpl;
       place =
@@ -33,6 +34,7 @@ with-place c place vpid ept ep4ta =
     record {
       capability = c .capability;
       width = c .width;
+      «linear_width» = c .«linear_width»;
       pcid = c .pcid;
       cpl = c .cpl;
       place = place;

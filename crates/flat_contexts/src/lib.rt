@@ -12,6 +12,7 @@ ghost use Rattle.flat_contexts.specs.Contexts.{is-known, unflatten, with
 pub struct FlatContext {
     pub capability: u64,
     pub width: u64,
+    pub linear_width: u64,
     pub pcid: u64,
     pub cpl: u64,
     pub place: u64,
@@ -58,6 +59,7 @@ pub fn context_of(c: FlatContext) -> Context
     Context {
         capability: c.capability,
         width: c.width,
+        linear_width: c.linear_width,
         pcid: c.pcid,
         cpl: c.cpl,
         place,
@@ -71,6 +73,7 @@ fn with_place(c: Context, place: u64, vpid: u64, ept: u64, ep4ta: u64) -> FlatCo
     FlatContext {
         capability: c.capability,
         width: c.width,
+        linear_width: c.linear_width,
         pcid: c.pcid,
         cpl: c.cpl,
         place,

@@ -80,7 +80,7 @@ fn is_bad_invvpid(c: Context, o: Operands) -> bool
     !is_invvpid_supported(c.capability, type_number)
         | !(reserved == 0)
         | ((named == 0) & !(type_number == 2))
-        | ((type_number == 0) & !addresses::is_canonical(o.high))
+        | ((type_number == 0) & !addresses::is_canonical(c.linear_width, o.high))
 }
 
 // The capability has this INVEPT type.
@@ -105,12 +105,14 @@ fn is_bad_invept(c: Context, o: Operands) -> bool
 }
 
 // The operands of an INVPCID are invalid.
-fn is_bad_invpcid(o: Operands) -> bool
-    ensures { λ r. ⌜ r ≡ bad-invpcid o ⌝ }
+fn is_bad_invpcid(c: Context, o: Operands) -> bool
+    ensures { λ r. ⌜ r ≡ bad-invpcid c o ⌝ }
 {
     let type_number = o.type_number;
     let above_pcid = (o.low >> 12) % 4503599627370496;
-    (3 < type_number) | !(above_pcid == 0) | ((type_number == 0) & !addresses::is_canonical(o.high))
+    (3 < type_number)
+        | !(above_pcid == 0)
+        | ((type_number == 0) & !addresses::is_canonical(c.linear_width, o.high))
 }
 
 // The fields of a VM entry fail it.
@@ -185,7 +187,7 @@ pub fn own_ground(c: Context, e: Event) -> u64
         Event::Vmxoff => 0,
         Event::NewPcid(_) => 0,
         Event::Reset => 0,
-        Event::Invpcid(o) => number_if(is_bad_invpcid(o), 7),
+        Event::Invpcid(o) => number_if(is_bad_invpcid(c, o), 7),
         Event::MovToCr3(_) => 0,
     }
 }

@@ -1,47 +1,77 @@
 // The kinds of mappings and events as data: how long a record or event of a kind is, where a mapping's
-// span and EP4TA stand, its sort, and whether it is a structure cache. A test takes any number and holds
-// of no unknown kind. A table mixes its kinds, so the numbers of a kind are read by shifts and not by branches.
+// span and EP4TA stand, its sort, whether it is a structure cache, and of which linear width it is. A test takes any
+// number and holds of no unknown kind. A table mixes its kinds, so what is asked of a kind is read by shifts and not by
+// branches.
 ghost use mathlib.Core.Path.{_≡_};
-ghost use mathlib.Core.Bool.{true, cond};
+ghost use mathlib.Core.Bool.{true, cond, not, _&&_};
 ghost use Prim.Native.Nat.{_<_};
+ghost use Rattle.model.specs.Bits.{bit};
 ghost use Rattle.model.specs.Layouts.{Field, mapping-kind, event-kind, length-of};
-ghost use Rattle.model.specs.Mappings.{linear, guest-physical, combined, structure-cache, global-marked, span-in-range};
-ghost use Rattle.kinds.specs.Places.{byte-at, place-of};
+ghost use Rattle.model.specs.Mappings.{linear, guest-physical, combined, structure-cache, wide, other-width, global-marked};
+ghost use Rattle.laws.specs.Layouts.{in-set};
+ghost use Rattle.kinds.specs.Places.{number-at, place-of};
 
-// How long a record or event is, a byte for each kind, the first kind's in the lowest: kinds 0 to 7, 16 to
-// 23, and 24 to 31. An unknown kind has 0.
-const LENGTHS: u64 = 0x0015_1110_1611_1100;
+// Numbers by kind, five bits for each, the first kind's in the lowest: how long a record or event is, of kinds 0 to 11
+// and 16 to 27. An unknown kind has 0.
+const LENGTHS: u64 = 0x005A_3795_630B_4620;
 
-const LENGTHS_FROM_16: u64 = 0x0101_0310_1209_1919;
+const LENGTHS_FROM_16: u64 = 0x01E4_2408_4709_2739;
 
-const LENGTHS_FROM_24: u64 = 0x0000_0000_0319_0104;
+// The lengths of kinds 1 to 6 once more, a byte for each, which the walk over a table reads a little faster.
+const NARROW_LENGTHS: u64 = 0x0015_1110_1611_1100;
 
-// Where the span of a mapping's record stands, in the same way.
-const SPANS: u64 = 0x0005_0605_0606_0600;
+// Where the span of a mapping's record stands, in five bits for each kind.
+const SPANS: u64 = 0x0014_A631_4C53_18C0;
 
 // Where its EP4TA stands, in the same way; 0 where it has none.
-const EP4TAS: u64 = 0x0010_0100_1101_0000;
+const EP4TAS: u64 = 0x0044_1204_0208_8400;
 
-// The number at a place among such bytes.
-fn byte_at(numbers: u64, place: u64) -> usize
-    requires { ⌜ place < 8 ⌝ }
-    ensures { λ r. ⌜ r ≡ byte-at numbers place ⌝ }
+// Sets of kinds, bit k for kind k.
+const LINEAR: u64 = 0x292;
+
+const COMBINED: u64 = 0x548;
+
+// Those whose linear addresses have 48 bits.
+const NARROW: u64 = 0x5A;
+
+// The number at a place among such numbers.
+fn number_at(numbers: u64, place: u64) -> usize
+    requires { ⌜ place < 12 ⌝ }
+    ensures { λ r. ⌜ r ≡ number-at numbers place ⌝ }
 {
-    ((numbers >> (8 * place)) % 256) as usize
+    ((numbers >> (5 * place)) % 32) as usize
+}
+
+// The kind is in a set of kinds.
+pub fn is_among(kinds: u64, kind: u64) -> bool
+    requires { ⌜ kind < 64 ⌝ }
+    ensures { λ r. ⌜ r ≡ bit kind kinds ⌝ }
+{
+    (kinds >> kind) % 2 == 1
+}
+
+// The same of any number; one of 64 or more is in no set.
+fn is_in(kinds: u64, kind: u64) -> bool
+    ensures { λ r. ⌜ r ≡ in-set kinds kind ⌝ }
+{
+    if kind < 64 {
+        return is_among(kinds, kind);
+    }
+    false
 }
 
 // The kind is a mapping's.
 pub fn is_mapping(kind: u64) -> bool
     ensures { λ r. ⌜ r ≡ mapping-kind kind ⌝ }
 {
-    (1 <= kind) & (kind <= 6)
+    (1 <= kind) & (kind <= 10)
 }
 
 // The kind is a linear mapping's.
 pub fn is_linear(kind: u64) -> bool
     ensures { λ r. ⌜ r ≡ linear kind ⌝ }
 {
-    (kind == 1) | (kind == 4)
+    is_in(LINEAR, kind)
 }
 
 // The kind is a guest-physical mapping's.
@@ -55,21 +85,48 @@ pub fn is_guest_physical(kind: u64) -> bool
 pub fn is_combined(kind: u64) -> bool
     ensures { λ r. ⌜ r ≡ combined kind ⌝ }
 {
-    (kind == 3) | (kind == 6)
+    is_in(COMBINED, kind)
 }
 
 // The kind is a structure cache's.
 pub fn is_structure_cache(kind: u64) -> bool
     ensures { λ r. ⌜ r ≡ structure-cache kind ⌝ }
 {
-    (4 <= kind) & (kind <= 6)
+    ((4 <= kind) & (kind <= 6)) | ((9 <= kind) & (kind <= 10))
 }
 
 // The kind's mapping carries a global mark.
 pub fn is_global_marked(kind: u64) -> bool
     ensures { λ r. ⌜ r ≡ global-marked kind ⌝ }
 {
-    (kind == 1) | (kind == 3)
+    ((kind == 1) | (kind == 3)) | ((7 <= kind) & (kind <= 8))
+}
+
+// The kind's linear addresses have 57 bits.
+pub fn is_wide(kind: u64) -> bool
+    ensures { λ r. ⌜ r ≡ wide kind ⌝ }
+{
+    (7 <= kind) & (kind <= 10)
+}
+
+// The kind is a mapping's of a linear width; any width but 57 is read as 48.
+pub fn is_mapping_at(width: u64, kind: u64) -> bool
+    ensures { λ r. ⌜ r ≡ (mapping-kind kind && not (other-width width kind)) ⌝ }
+{
+    if width == 57 {
+        return is_guest_physical(kind) | is_wide(kind);
+    }
+    (1 <= kind) & (kind <= 6)
+}
+
+// The kind is one of the other linear width.
+pub fn is_of_other_width(width: u64, kind: u64) -> bool
+    ensures { λ r. ⌜ r ≡ other-width width kind ⌝ }
+{
+    if width == 57 {
+        return is_in(NARROW, kind);
+    }
+    is_wide(kind)
 }
 
 // The length of a mapping's record, its kind byte with it.
@@ -77,7 +134,15 @@ pub fn length_of_mapping(kind: u64) -> usize
     requires { ⌜ mapping-kind kind ≡ true ⌝ }
     ensures { λ r. ⌜ r ≡ length-of kind ⌝ }
 {
-    byte_at(LENGTHS, kind)
+    number_at(LENGTHS, kind)
+}
+
+// The same of a mapping whose addresses have 48 bits.
+pub fn length_of_narrow(kind: u64) -> usize
+    requires { ⌜ (mapping-kind kind && not (other-width 48 kind)) ≡ true ⌝ }
+    ensures { λ r. ⌜ r ≡ length-of kind ⌝ }
+{
+    ((NARROW_LENGTHS >> (8 * kind)) % 256) as usize
 }
 
 // Where the span stands in a mapping's record.
@@ -85,16 +150,7 @@ pub fn place_of_span(kind: u64) -> usize
     requires { ⌜ mapping-kind kind ≡ true ⌝ }
     ensures { λ r. ⌜ r ≡ place-of Field.span kind ⌝ }
 {
-    byte_at(SPANS, kind)
-}
-
-// The span is in the range of a kind of mapping.
-pub fn is_span(kind: u64, span: u64) -> bool
-    requires { ⌜ mapping-kind kind ≡ true ⌝ }
-    ensures { λ r. ⌜ r ≡ span-in-range kind span ⌝ }
-{
-    let translation = kind <= 3;
-    (translation & (span <= 2)) | (!translation & ((1 <= span) & (span <= 3)))
+    number_at(SPANS, kind)
 }
 
 // Where the EP4TA stands in a mapping's record; 0 where the mapping has none.
@@ -102,24 +158,21 @@ pub fn place_of_ep4ta(kind: u64) -> usize
     requires { ⌜ mapping-kind kind ≡ true ⌝ }
     ensures { λ r. ⌜ r ≡ place-of Field.ep4ta kind ⌝ }
 {
-    byte_at(EP4TAS, kind)
+    number_at(EP4TAS, kind)
 }
 
 // The length of a record or event of the kind, its kind byte with it; 0 where the kind is unknown.
 pub fn length(kind: u64) -> usize
     ensures { λ r. ⌜ r ≡ cond (event-kind kind) (length-of kind) 0 ⌝ }
 {
-    if kind < 8 {
-        return byte_at(LENGTHS, kind);
+    if kind < 12 {
+        return number_at(LENGTHS, kind);
     }
     if kind < 16 {
         return 0;
     }
-    if kind < 24 {
-        return byte_at(LENGTHS_FROM_16, kind - 16);
-    }
-    if kind < 32 {
-        return byte_at(LENGTHS_FROM_24, kind - 24);
+    if kind < 28 {
+        return number_at(LENGTHS_FROM_16, kind - 16);
     }
     0
 }

@@ -11,9 +11,11 @@ use Rattle.model.specs.declared.Context.{Context}
 use Rattle.model.specs.declared.Event.{Event}
 use Rattle.model.specs.declared.Event.the-variants.{Creation, Invvpid, Invept, Invlpg, EptViolation, Entry, Exit, Vmxon, Vmxoff, NewPcid, Reset, Invpcid, MovToCr3}
 use Rattle.model.specs.Context.{in-range, in-root, in-guest, current-ept}
-use Rattle.model.specs.Tables.{limit}
+use Rattle.model.specs.Layouts.{kind-of}
+use Rattle.model.specs.Mappings.{other-width}
+use Rattle.model.specs.Tables.{limit, records, whole, of-width}
 use Rattle.model.specs.Events.{event}
-use Rattle.model.specs.Answers.{first, bad-invvpid, bad-invept, bad-invpcid, invalid-opcode, exits, general-protection, bad-entry, ept-in-use, creatable, own-ground, created, no-room, valid-table, valid-here, table-grounds, event-grounds, event-answer, grounds, answer}
+use Rattle.model.specs.Answers.{first, bad-invvpid, bad-invept, bad-invpcid, invalid-opcode, exits, general-protection, bad-entry, ept-in-use, creatable, own-ground, created, no-room, valid-table, valid-here, stored-grounds, table-grounds, event-grounds, event-answer, grounds, answer}
 use Rattle.laws.specs.Lists.{Every, none, more, every-head, every-tail, every-append-front, every-append-back}
 
 -- every ground has a number above 0, so that no answer 0 stands for one
@@ -69,11 +71,37 @@ first-last-applies (g ∷ gs) n b h e =
     go true k other ih = absurd (other k)
     go false k other ih = ih k
 
+-- what it is that a table is valid: whole, and each of its records of the linear width
+abbrev pub OfWidth : ℕ → List ℕ → Type 0
+OfWidth w r = not (other-width w (kind-of r)) ≡ true
+
+pub of-width-every : (w : ℕ) (rs : List (List ℕ)) → of-width w rs ≡ true → Every (OfWidth w) rs
+unfolding of-width
+of-width-every w [] h = none
+of-width-every w (r ∷ rs) h =
+    let both = and-eq-true-iff (not (other-width w (kind-of r))) (of-width w rs) .0 h in
+    more (both .0) (of-width-every w rs (both .1))
+
+pub every-of-width : (w : ℕ) {rs : List (List ℕ)} → Every (OfWidth w) rs → of-width w rs ≡ true
+unfolding of-width
+every-of-width w none = refl
+every-of-width w (more h hs) = and-eq-true-iff _ _ .1 (h, every-of-width w hs)
+
+pub valid-table-parts : (w : ℕ) (t : List ℕ) → valid-table w t ≡ true → (whole t ≡ true) × Every (OfWidth w) (records t)
+unfolding valid-table
+valid-table-parts w t v =
+    let both = and-eq-true-iff (whole t) (of-width w (records t)) .0 v in
+    (both .0, of-width-every w (records t) (both .1))
+
+pub valid-table-made : (w : ℕ) (t : List ℕ) → whole t ≡ true → Every (OfWidth w) (records t) → valid-table w t ≡ true
+unfolding valid-table
+valid-table-made w t is each = and-eq-true-iff _ _ .1 (is, every-of-width w each)
+
 -- what it is that an event is accepted, as far as it concerns the table
 pub record Accepted (c : Context) (t e : List ℕ) (room : ℕ) : Type 0 where
   pub context : in-range c ≡ true
-  pub whole : valid-table t ≡ true
-  pub valid : valid-here e ≡ true
+  pub table : valid-table (c .«linear_width») t ≡ true
+  pub valid : valid-here c e ≡ true
   pub fits : length t + length (created e) ≤ room
   pub short : length t + length (created e) ≤ limit
 
@@ -81,17 +109,17 @@ pub accepted-parts : (c : Context) (t e : List ℕ) (room : ℕ) → answer c t 
 unfolding answer grounds table-grounds event-grounds no-room
 accepted-parts c t e room h =
     let all = first-zero (grounds c t e room) refl h in
-    let early = table-grounds c t ++ ((4, not (valid-here e)) ∷ []) in
+    let early = table-grounds c t ++ ((4, not (valid-here c e)) ∷ []) in
     let before = every-append-front (early ++ event-grounds c (event e)) ((12, no-room room t e) ∷ []) all in
     let last = every-append-back (early ++ event-grounds c (event e)) ((12, no-room room t e) ∷ []) all in
     let both = every-append-front early (event-grounds c (event e)) before in
-    let of-table = every-append-front (table-grounds c t) ((4, not (valid-here e)) ∷ []) both in
-    let of-event = every-append-back (table-grounds c t) ((4, not (valid-here e)) ∷ []) both in
+    let of-table = every-append-front (table-grounds c t) ((4, not (valid-here c e)) ∷ []) both in
+    let of-event = every-append-back (table-grounds c t) ((4, not (valid-here c e)) ∷ []) both in
     let enough = ltb-false (min room limit) (length t + length (created e)) (every-head last) in
     record {
       context = not-false (in-range c) (every-head of-table);
-      whole = not-false (valid-table t) (every-head (every-tail (every-tail of-table)));
-      valid = not-false (valid-here e) (every-head of-event);
+      table = not-false (valid-table (c .«linear_width») t) (every-head (every-tail (every-tail of-table)));
+      valid = not-false (valid-here c e) (every-head of-event);
       fits = omega arith;
       short = omega arith;
     }
@@ -102,7 +130,7 @@ unfolding answer grounds no-room
 answer-room c t e room h = let same : min room limit ≡ limit = omega arith in rw same
 
 -- grounds 1 to 3 of a whole table that is short enough
-pub table-grounds-whole : (c : Context) (t : List ℕ) → valid-table t ≡ true → length t ≤ limit
+pub table-grounds-whole : (c : Context) (t : List ℕ) → valid-table (c .«linear_width») t ≡ true → length t ≤ limit
     → table-grounds c t ≡ (1, not (in-range c)) ∷ (2, false) ∷ (3, false) ∷ []
 unfolding table-grounds
 table-grounds-whole c t w short = rw (w, le-ltb limit (length t) short)
@@ -115,7 +143,7 @@ no-room-shorter room t t′ e less h =
     (omega (arith, ltb-false (min room limit) (length t + length (created e)) h))
 
 -- of two whole tables the shorter has the same answer, where room does not give it
-pub answer-shorter : (c : Context) (t t′ e : List ℕ) (room : ℕ) → valid-table t ≡ true → valid-table t′ ≡ true → length t ≤ limit
+pub answer-shorter : (c : Context) (t t′ e : List ℕ) (room : ℕ) → valid-table (c .«linear_width») t ≡ true → valid-table (c .«linear_width») t′ ≡ true → length t ≤ limit
     → length t′ ≤ length t
     → (answer c t e room ≡ 12 → ⊥)
     → answer c t′ e room ≡ answer c t e room
@@ -124,14 +152,14 @@ answer-shorter c t t′ e room w w′ short less h =
     let same : table-grounds c t′ ≡ table-grounds c t =
     table-grounds-whole c t′ w′ (omega arith) ∙ sym (table-grounds-whole c t w short) in
     rw same
-    (first-last (table-grounds c t ++ ((4, not (valid-here e)) ∷ []) ++ event-grounds c (event e)) 12 (no-room room t e)
+    (first-last (table-grounds c t ++ ((4, not (valid-here c e)) ∷ []) ++ event-grounds c (event e)) 12 (no-room room t e)
     (no-room room t′ e) (no-room-shorter room t t′ e less) h)
 
 -- 12 is given only where there is no room
 pub answer-no-room : (c : Context) (t e : List ℕ) (room : ℕ) → answer c t e room ≡ 12 → no-room room t e ≡ true
 unfolding answer grounds table-grounds event-grounds
 answer-no-room c t e room h =
-    first-last-applies (table-grounds c t ++ ((4, not (valid-here e)) ∷ []) ++ event-grounds c (event e)) 11 (no-room room t e) refl h
+    first-last-applies (table-grounds c t ++ ((4, not (valid-here c e)) ∷ []) ++ event-grounds c (event e)) 11 (no-room room t e) refl h
 
 -- a number is not given where no ground of it applies
 abbrev absent : ℕ → List (ℕ × Bool) → Bool
@@ -150,7 +178,7 @@ first-absent (g ∷ gs) n h e =
     go false k off ih = ih k
 
 -- a whole table that is short enough is not answered 2 or 3, and in a context in its ranges not 1
-module _ (c : Context) (t e : List ℕ) (room : ℕ) (w : valid-table t ≡ true) (short : length t ≤ limit) where
+module _ (c : Context) (t e : List ℕ) (room : ℕ) (w : valid-table (c .«linear_width») t ≡ true) (short : length t ≤ limit) where
   pub answer-not-2 : answer c t e room ≡ 2 → ⊥
   unfolding answer grounds event-grounds
   answer-not-2 = first-absent (grounds c t e room) 1 (rw (table-grounds-whole c t w short))
@@ -191,19 +219,19 @@ module _ (c : Context) (t e : List ℕ) (room : ℕ) where
   pub answer-of-table : (first (table-grounds c t) ≡ 0 → ⊥) → answer c t e room ≡ first (table-grounds c t)
   unfolding answer grounds
   answer-of-table h =
-      simp append-assoc (first-append-some (table-grounds c t) (((4, not (valid-here e)) ∷ []) ++ (event-grounds c (event e) ++ ((12, no-room room t e) ∷ []))) h)
+      simp append-assoc (first-append-some (table-grounds c t) (((4, not (valid-here c e)) ∷ []) ++ (event-grounds c (event e) ++ ((12, no-room room t e) ∷ []))) h)
 
   module _ (h : first (table-grounds c t) ≡ 0) where
-    past-table : answer c t e room ≡ first ((4, not (valid-here e)) ∷ (event-grounds c (event e) ++ ((12, no-room room t e) ∷ [])))
+    past-table : answer c t e room ≡ first ((4, not (valid-here c e)) ∷ (event-grounds c (event e) ++ ((12, no-room room t e) ∷ [])))
     unfolding answer grounds table-grounds
     past-table =
-        first-append-none (table-grounds c t) ((4, not (valid-here e)) ∷ (event-grounds c (event e) ++ ((12, no-room room t e) ∷ []))) refl h
+        first-append-none (table-grounds c t) ((4, not (valid-here c e)) ∷ (event-grounds c (event e) ++ ((12, no-room room t e) ∷ []))) refl h
 
-    pub answer-of-invalid : valid-here e ≡ false → answer c t e room ≡ 4
+    pub answer-of-invalid : valid-here c e ≡ false → answer c t e room ≡ 4
     unfolding first
     answer-of-invalid v = past-table ∙ rw v
 
-    module _ (v : valid-here e ≡ true) where
+    module _ (v : valid-here c e ≡ true) where
       past-valid : answer c t e room ≡ first (event-grounds c (event e) ++ ((12, no-room room t e) ∷ []))
       unfolding first
       past-valid = past-table ∙ rw v
@@ -238,7 +266,7 @@ own-ground-cases P p0 p7 p8 p9 p10 p11 c = of-event
     of-event Vmxoff = p0
     of-event (NewPcid n) = p0
     of-event Reset = p0
-    of-event (Invpcid o) = given (bad-invpcid o) p7
+    of-event (Invpcid o) = given (bad-invpcid c o) p7
     of-event (MovToCr3 pcid) = p0
 
 -- the answer of an event behind 5, 6 and 7 is its own ground
@@ -269,8 +297,28 @@ accepted-own-ground c t e room h =
     parts = accepted-parts c t e room h
 
     passes : first (table-grounds c t) ≡ 0
-    passes = rw (table-grounds-whole c t (parts .whole) (omega (arith, parts .short)), parts .context)
+    passes = rw (table-grounds-whole c t (parts .table) (omega (arith, parts .short)), parts .context)
 
     go : (b : Bool) → eqb (event-answer c (event e)) 0 ≡ b → event-answer c (event e) ≡ 0
     go true is = eqb-true (event-answer c (event e)) 0 is
     go false is = sym (answer-of-event c t e room passes (parts .valid) (eqb-false (event-answer c (event e)) 0 is)) ∙ h
+
+-- a context out of its ranges is answered 1
+pub table-grounds-out-of-range : (c : Context) (t : List ℕ) → in-range c ≡ false → first (table-grounds c t) ≡ 1
+unfolding table-grounds first
+table-grounds-out-of-range c t out = rw out
+
+-- in a context in its ranges the table alone decides
+pub table-grounds-in-range : (c : Context) (t : List ℕ) → in-range c ≡ true → first (table-grounds c t) ≡ first (stored-grounds (c .«linear_width») t)
+unfolding table-grounds first
+table-grounds-in-range c t fits = rw fits
+
+-- a table that passes is valid
+pub stored-valid : (w : ℕ) (t : List ℕ) → first (stored-grounds w t) ≡ 0 → (length t ≤ limit) × (valid-table w t ≡ true)
+stored-valid w t h =
+    let all = first-zero (stored-grounds w t) refl h in
+    (ltb-false limit (length t) (every-head all), not-false (valid-table w t) (every-head (every-tail all)))
+
+pub stored-passes : (w : ℕ) (t : List ℕ) → valid-table w t ≡ true → length t ≤ limit → first (stored-grounds w t) ≡ 0
+unfolding first
+stored-passes w t valid short = rw (le-ltb limit (length t) short, valid)

@@ -14,17 +14,18 @@ use Rattle.model.specs.declared.Ept.the-variants.{Off, On}
 use Rattle.model.specs.declared.Entry
 use Rattle.model.specs.declared.Event.{Event}
 use Rattle.model.specs.declared.Event.the-variants.{Creation, Invvpid, Invept, Invlpg, EptViolation, Entry, Exit, Vmxon, Vmxoff, NewPcid, Reset, Invpcid, MovToCr3}
-use Rattle.model.specs.Context.{in-range, pcid-in-range, cpl-in-range, ept-in-range, place-in-range, after-reset}
+use Rattle.model.specs.Context.{in-range, linear-width-in-range, pcid-in-range, cpl-in-range, ept-in-range, place-in-range, moved, after-reset}
 use Rattle.model.specs.Layouts.{Field, field, kind-of, mapping-kind, body-of}
 use Rattle.model.specs.Mappings.{mapping}
 use Rattle.model.specs.Events.{event, operands, violation, entry, new-pcid, flag-in-range, event-in-range}
-use Rattle.model.specs.Scopes.{entered, moved, ep4ta-of, next-context}
+use Rattle.model.specs.Scopes.{entered, ep4ta-of, next-context}
 use Rattle.laws.specs.Lists.{Every, none, more}
 
 -- what it is that a context is in its ranges, part by part
 pub record InRange (c : Context) : Type 0 where
   pub low : leb 36 (c .width) ≡ true
   pub high : leb (c .width) 52 ≡ true
+  pub linear-width : linear-width-in-range (c .«linear_width») ≡ true
   pub pcid : pcid-in-range (c .pcid) ≡ true
   pub cpl : cpl-in-range (c .cpl) ≡ true
   pub place : place-in-range (c .place) ≡ true
@@ -32,11 +33,12 @@ pub record InRange (c : Context) : Type 0 where
 pub in-range-parts : (c : Context) → in-range c ≡ true → InRange c
 unfolding in-range
 in-range-parts c h =
-    let four = and-eq-true-iff _ _ .0 h in
+    let five = and-eq-true-iff _ _ .0 h in
+    let four = and-eq-true-iff _ _ .0 (five .0) in
     let three = and-eq-true-iff _ _ .0 (four .0) in
     let two = and-eq-true-iff _ _ .0 (three .0) in
     let one = and-eq-true-iff _ _ .0 (two .0) in
-    record { low = one .0; high = one .1; pcid = two .1; cpl = three .1; place = four .1 }
+    record { low = one .0; high = one .1; linear-width = two .1; pcid = three .1; cpl = four .1; place = five .1 }
 
 pub in-range-moved : (c : Context) (pcid cpl : ℕ) (place : Place) → in-range c ≡ true → pcid-in-range pcid ≡ true → cpl-in-range cpl ≡ true
     → place-in-range place ≡ true
@@ -44,7 +46,7 @@ pub in-range-moved : (c : Context) (pcid cpl : ℕ) (place : Place) → in-range
 unfolding in-range
 in-range-moved c pcid cpl place h p q r =
     let parts = in-range-parts c h in
-    rw (parts .low, parts .high, p, q, r)
+    rw (parts .low, parts .high, parts .linear-width, p, q, r)
 
 -- bytes, and the VPID that a VM entry of bytes names
 abbrev pub Bytes : List ℕ → Type 0
@@ -128,29 +130,46 @@ entered-in-range n small = go (eqb (n .vpids) 1) (eqb (n .ept) 1)
     go false true = lt-ltb (ep4ta-of (n .eptp)) (2 ^ 40) (omega arith)
     go false false = refl
 
-pub next-context-in-range : (c : Context) (e : Event) → VpidInRange e → event-in-range e ≡ true → in-range c ≡ true → in-range (next-context c e) ≡ true
+pub next-context-in-range : (c : Context) (w : ℕ) (e : Event) → VpidInRange e → event-in-range w e ≡ true → in-range c ≡ true → in-range (next-context c e) ≡ true
 unfolding next-context event-in-range after-reset
-next-context-in-range c (Creation m) v fits h = h
-next-context-in-range c (Invvpid o) v fits h = h
-next-context-in-range c (Invept o) v fits h = h
-next-context-in-range c (Invlpg address) v fits h = h
-next-context-in-range c (EptViolation violation) v fits h = h
-next-context-in-range c (Entry n) v fits h =
+next-context-in-range c w (Creation m) v fits h = h
+next-context-in-range c w (Invvpid o) v fits h = h
+next-context-in-range c w (Invept o) v fits h = h
+next-context-in-range c w (Invlpg address) v fits h = h
+next-context-in-range c w (EptViolation violation) v fits h = h
+next-context-in-range c w (Entry n) v fits h =
     let flags = flag-in-range (n .vpids) && flag-in-range (n .ept) in
     let cpl = and-eq-true-iff (flags && pcid-in-range (n .pcid)) (cpl-in-range (n .cpl)) .0 fits in
     let pcid = and-eq-true-iff flags (pcid-in-range (n .pcid)) .0 (cpl .0) in
     in-range-moved c (n .pcid) (n .cpl) (entered n) h (pcid .1) (cpl .1) (entered-in-range n v)
-next-context-in-range c (Exit pcid) v fits h = in-range-moved c pcid 0 Root h fits refl refl
-next-context-in-range c Vmxon v fits h =
+next-context-in-range c w (Exit pcid) v fits h = in-range-moved c pcid 0 Root h fits refl refl
+next-context-in-range c w Vmxon v fits h =
     let parts = in-range-parts c h in
     in-range-moved c (c .pcid) (c .cpl) Root h (parts .pcid) (parts .cpl) refl
-next-context-in-range c Vmxoff v fits h =
+next-context-in-range c w Vmxoff v fits h =
     let parts = in-range-parts c h in
     in-range-moved c (c .pcid) (c .cpl) Outside h (parts .pcid) (parts .cpl) refl
-next-context-in-range c (NewPcid n) v fits h =
+next-context-in-range c w (NewPcid n) v fits h =
     let both = and-eq-true-iff (pcid-in-range (n .pcid)) (cpl-in-range (n .cpl)) .0 fits in
     in-range-moved c (n .pcid) (n .cpl) (c .place) h (both .0) (both .1) (in-range-parts c h .place)
-next-context-in-range c Reset v fits h = in-range-moved c 0 0 Outside h refl refl refl
-next-context-in-range c (Invpcid o) v fits h = h
-next-context-in-range c (MovToCr3 pcid) v fits h =
+next-context-in-range c w Reset v fits h = in-range-moved c 0 0 Outside h refl refl refl
+next-context-in-range c w (Invpcid o) v fits h = h
+next-context-in-range c w (MovToCr3 pcid) v fits h =
     let parts = in-range-parts c h in in-range-moved c pcid (c .cpl) (c .place) h fits (parts .cpl) (parts .place)
+
+-- no event changes the linear width
+pub linear-width-next : (c : Context) (e : Event) → next-context c e .«linear_width» ≡ c .«linear_width»
+unfolding next-context after-reset
+linear-width-next c (Creation m) = refl
+linear-width-next c (Invvpid o) = refl
+linear-width-next c (Invept o) = refl
+linear-width-next c (Invlpg address) = refl
+linear-width-next c (EptViolation violation) = refl
+linear-width-next c (Entry n) = refl
+linear-width-next c (Exit pcid) = refl
+linear-width-next c Vmxon = refl
+linear-width-next c Vmxoff = refl
+linear-width-next c (NewPcid n) = refl
+linear-width-next c Reset = refl
+linear-width-next c (Invpcid o) = refl
+linear-width-next c (MovToCr3 pcid) = refl

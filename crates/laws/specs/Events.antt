@@ -1,7 +1,7 @@
 -- Events: what the event reader's answer says, and that a valid creation is an exactly valid record.
 use Prim.Native.Nat.{ℕ}
 use mathlib.Core.Path.{_≡_, refl, sym, ap, _∙_}
-use mathlib.Core.Bool.{Bool, true, false, cond, not, _&&_, _||_, and-eq-true-iff, false≢true}
+use mathlib.Core.Bool.{Bool, true, false, cond, not, _&&_, _||_, and-false, and-eq-true-iff, false≢true}
 use mathlib.Core.List.{List, [], _∷_}
 use native.Mathlib.Omega.{arith}
 use lib.Dec.{eqb}
@@ -12,21 +12,21 @@ use Rattle.model.specs.declared.Event.the-variants.{Creation}
 use Rattle.model.specs.declared.Mapping.{Mapping}
 use Rattle.model.specs.declared.EventReading.the-variants.{Read, Invalid}
 use Rattle.model.specs.Layouts.{kind-of, mapping-kind, event-kind, length-of}
-use Rattle.model.specs.Mappings.{mapping, Held}
+use Rattle.model.specs.Mappings.{mapping, Held, other-width, fields-in-range}
 use Rattle.model.specs.Events.{event, event-in-range, valid-event, event-reading}
 use Rattle.laws.specs.Layouts.{length-of-positive}
-use Rattle.laws.specs.Mappings.{Valid, valid-made, starts-made}
+use Rattle.laws.specs.Mappings.{Valid, valid-made, starts-made, other-width-known}
 
 -- what it is that an event is valid, part by part
-pub record ValidEvent (e : List ℕ) : Type 0 where
+pub record ValidEvent (w : ℕ) (e : List ℕ) : Type 0 where
   pub kind : event-kind (kind-of e) ≡ true
   pub exact : length e ≡ length-of (kind-of e)
-  pub fields : event-in-range (event e) ≡ true
+  pub fields : event-in-range w (event e) ≡ true
 
-pub valid-event-parts : (e : List ℕ) → valid-event e ≡ true → ValidEvent e
+pub valid-event-parts : (w : ℕ) (e : List ℕ) → valid-event w e ≡ true → ValidEvent w e
 unfolding valid-event
-valid-event-parts e v =
-    let both = and-eq-true-iff (event-kind (kind-of e) && eqb (length e) (length-of (kind-of e))) (event-in-range (event e)) .0 v in
+valid-event-parts w e v =
+    let both = and-eq-true-iff (event-kind (kind-of e) && eqb (length e) (length-of (kind-of e))) (event-in-range w (event e)) .0 v in
     let front = and-eq-true-iff (event-kind (kind-of e)) (eqb (length e) (length-of (kind-of e))) .0 (both .0) in
     record { kind = front .0; exact = eqb-true (length e) (length-of (kind-of e)) (front .1); fields = both .1 }
 
@@ -34,28 +34,40 @@ pub event-creation : (e : List ℕ) → mapping-kind (kind-of e) ≡ true → ev
 unfolding event
 event-creation e k = rw k
 
-pub creation-valid : (e : List ℕ) → valid-event e ≡ true → mapping-kind (kind-of e) ≡ true → Valid e
-unfolding event-in-range
-creation-valid e v k =
-    let p = valid-event-parts e v in
+-- the fields of a valid creation are in their ranges, and it is of the linear width
+pub creation-fields : (w : ℕ) (e : List ℕ) → valid-event w e ≡ true → mapping-kind (kind-of e) ≡ true
+    → (fields-in-range (mapping e) ≡ true) × (not (other-width w (kind-of e)) ≡ true)
+unfolding event-in-range mapping
+creation-fields w e v k =
+    and-eq-true-iff (fields-in-range (mapping e)) (not (other-width w (kind-of e))) .0 (rw (event-creation e k) at (valid-event-parts w e v .fields))
+
+pub creation-valid : (w : ℕ) (e : List ℕ) → valid-event w e ≡ true → mapping-kind (kind-of e) ≡ true → Valid e
+creation-valid w e v k =
+    let p = valid-event-parts w e v in
     valid-made e
-    (starts-made e (record { held = record { known = k; fits = omega (arith, p .exact) }; fields = rw (event-creation e k) at (p .fields) }))
+    (starts-made e (record { held = record { known = k; fits = omega (arith, p .exact) }; fields = creation-fields w e v k .0 }))
     (p .exact)
 
+-- a creation of the other linear width is not valid
+pub other-width-invalid : (w : ℕ) (e : List ℕ) → other-width w (kind-of e) ≡ true → valid-event w e ≡ false
+unfolding valid-event event-in-range mapping
+other-width-invalid w e other =
+    rw (event-creation e (other-width-known w (kind-of e) other), other, and-false, and-false)
+
 -- what the event reader's answer says of the bytes
-pub valid-event-read : (e : List ℕ) (x : Event) → event-reading e ≡ Read x → (valid-event e ≡ true) × (x ≡ event e)
+pub valid-event-read : (w : ℕ) (e : List ℕ) (x : Event) → event-reading w e ≡ Read x → (valid-event w e ≡ true) × (x ≡ event e)
 unfolding event-reading
-valid-event-read e x h = go (valid-event e) refl h
+valid-event-read w e x h = go (valid-event w e) refl h
   where
-    go : (b : Bool) → valid-event e ≡ b → cond b (Read (event e)) Invalid ≡ Read x → (valid-event e ≡ true) × (x ≡ event e)
+    go : (b : Bool) → valid-event w e ≡ b → cond b (Read (event e)) Invalid ≡ Read x → (valid-event w e ≡ true) × (x ≡ event e)
     go true v k = (v, cc)
     go false v k = absurd (let z : _≡_ {A = ℕ} 0 1 = cc in omega arith)
 
-pub valid-event-invalid : (e : List ℕ) → event-reading e ≡ Invalid → valid-event e ≡ false
+pub valid-event-invalid : (w : ℕ) (e : List ℕ) → event-reading w e ≡ Invalid → valid-event w e ≡ false
 unfolding event-reading
-valid-event-invalid e h = go (valid-event e) refl h
+valid-event-invalid w e h = go (valid-event w e) refl h
   where
-    go : (b : Bool) → valid-event e ≡ b → cond b (Read (event e)) Invalid ≡ Invalid → valid-event e ≡ false
+    go : (b : Bool) → valid-event w e ≡ b → cond b (Read (event e)) Invalid ≡ Invalid → valid-event w e ≡ false
     go true v k = absurd (let z : _≡_ {A = ℕ} 0 1 = cc in omega arith)
     go false v k = v
 
@@ -69,20 +81,20 @@ kind-of-empty (x ∷ xs) none = absurd (omega arith)
 abbrev pub unsized : List ℕ → Bool
 unsized e = eqb (length e) 0 || not (eqb (length e) (cond (event-kind (kind-of e)) (length-of (kind-of e)) 0))
 
-module _ (e : List ℕ) where
+module _ (w : ℕ) (e : List ℕ) where
   by-kind : (known : Bool) → eqb (length e) (cond known (length-of (kind-of e)) 0) ≡ cond known (eqb (length e) (length-of (kind-of e))) (eqb (length e) 0)
   by-kind true = refl
   by-kind false = refl
 
   -- then they are not valid
-  pub valid-unsized : unsized e ≡ true → false ≡ valid-event e
+  pub valid-unsized : unsized e ≡ true → false ≡ valid-event w e
   unfolding valid-event
   valid-unsized h =
       go (eqb (length e) 0) (event-kind (kind-of e)) (eqb (length e) (length-of (kind-of e))) refl refl (rw (by-kind (event-kind (kind-of e))) at h)
     where
       go : (empty known exact : Bool) → eqb (length e) 0 ≡ empty → eqb (length e) (length-of (kind-of e)) ≡ exact
           → (empty || not (cond known exact empty)) ≡ true
-          → false ≡ (known && exact && event-in-range (event e))
+          → false ≡ (known && exact && event-in-range w (event e))
       go empty false exact p q h = refl
       go empty true false p q h = refl
       go false true true p q h = absurd (false≢true h)
@@ -90,13 +102,13 @@ module _ (e : List ℕ) where
           absurd (omega (arith, eqb-true (length e) 0 p, eqb-true (length e) (length-of (kind-of e)) q, length-of-positive (kind-of e)))
 
   -- else the ranges of their fields decide
-  pub valid-sized : unsized e ≡ false → (length e ≡ length-of (kind-of e)) × (event-in-range (event e) ≡ valid-event e)
+  pub valid-sized : unsized e ≡ false → (length e ≡ length-of (kind-of e)) × (event-in-range w (event e) ≡ valid-event w e)
   unfolding valid-event
   valid-sized h =
       go (eqb (length e) 0) (event-kind (kind-of e)) (eqb (length e) (length-of (kind-of e))) refl (rw (by-kind (event-kind (kind-of e))) at h)
     where
       go : (empty known exact : Bool) → eqb (length e) (length-of (kind-of e)) ≡ exact → (empty || not (cond known exact empty)) ≡ false
-          → (length e ≡ length-of (kind-of e)) × (event-in-range (event e) ≡ (known && exact && event-in-range (event e)))
+          → (length e ≡ length-of (kind-of e)) × (event-in-range w (event e) ≡ (known && exact && event-in-range w (event e)))
       go true known exact q h = absurd (false≢true (sym h))
       go false false exact q h = absurd (false≢true (sym h))
       go false true false q h = absurd (false≢true (sym h))

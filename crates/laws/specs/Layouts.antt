@@ -2,12 +2,12 @@
 -- do not matter.
 use Prim.Native.Nat.{ℕ, zero, suc, _+_, _*_, _≤_, _<_}
 use mathlib.Core.Path.{_≡_, refl, sym, ap, ap₂, subst}
-use mathlib.Core.Bool.{Bool, true, false, cond, not, _&&_, and-eq-true-iff, false≢true}
+use mathlib.Core.Bool.{Bool, true, false, cond, not, _&&_, _||_, and-eq-true-iff, false≢true}
 use mathlib.Core.List.{List, [], _∷_, _++_, map}
 use native.Mathlib.Omega.{arith}
 use borrow.Author.Tests.{eqb-true, eqb-false, leb-true, ltb-true}
-use lib.Dec.{eqb, leb, ltb}
-use Rattle.model.specs.Bits.{number}
+use lib.Dec.{eqb, leb, ltb, lit<}
+use Rattle.model.specs.Bits.{bit, number}
 use Rattle.model.specs.Layouts.{Field, Body, Row, field-number, mapping-kinds, mapping-bodies, other-event-kinds, bytes-of, offset-in, width-in, row-test, known-in, kind-of, mapping-kind, event-kind, body-of, length-of, field}
 use Rattle.laws.specs.Lists.{Agree}
 
@@ -98,25 +98,52 @@ agrees-below f g n all f-below g-below k = go (f k) (g k) refl refl
 pub mapping-kind-below : (k : ℕ) → mapping-kind k ≡ true → k < 64
 mapping-kind-below k known = ltb-true k 64 (of-mapping-kind (λ k. ltb k 64) refl k known)
 
--- they are those from 1 to 6
-pub mapping-kind-range : (k : ℕ) → mapping-kind k ≡ (leb 1 k && leb k 6)
-unfolding mapping-kind
-mapping-kind-range =
-    agrees-below mapping-kind (λ k. leb 1 k && leb k 6) 64 refl mapping-kind-below
-    (λ k holds. omega (arith, leb-true k 6 (and-eq-true-iff (leb 1 k) (leb k 6) .0 holds .1)))
+-- tests that hold of numbers below 64 alone
+abbrev pub Small : (ℕ → Bool) → Type 0
+Small f = (k : ℕ) → f k ≡ true → k < 64
 
-pub mapping-kind-le : (k : ℕ) → mapping-kind k ≡ true → k ≤ 6
-mapping-kind-le k known = leb-true k 6 (of-mapping-kind (λ k. leb k 6) refl k known)
+pub small-eqb : (n : ℕ) → n < 64 → Small (λ k. eqb k n)
+small-eqb n h k is = omega (arith, eqb-true k n is)
+
+pub small-range : (m n : ℕ) → n < 64 → Small (λ k. leb m k && leb k n)
+small-range m n h k is = omega (arith, leb-true k n (and-eq-true-iff (leb m k) (leb k n) .0 is .1))
+
+pub small-or : (f g : ℕ → Bool) → Small f → Small g → Small (λ k. f k || g k)
+small-or f g p q k = go (f k) refl
+  where
+    go : (b : Bool) → f k ≡ b → (b || g k) ≡ true → k < 64
+    go true is h = p k is
+    go false is h = q k h
+
+-- a test of kinds is one by numbers if they agree below 64
+pub by-test : (f g : ℕ → Bool) → ((k : ℕ) → f k ≡ true → mapping-kind k ≡ true) → Small g → below (λ k. agrees (f k) (g k)) 64 ≡ true → (k : ℕ) → f k ≡ g k
+by-test f g known small all = agrees-below f g 64 all (λ k holds. mapping-kind-below k (known k holds)) small
+
+-- they are those from 1 to 10
+pub mapping-kind-range : (k : ℕ) → mapping-kind k ≡ (leb 1 k && leb k 10)
+unfolding mapping-kind
+mapping-kind-range = agrees-below mapping-kind (λ k. leb 1 k && leb k 10) 64 refl mapping-kind-below (small-range 1 10 (lit< tt))
+
+pub mapping-kind-le : (k : ℕ) → mapping-kind k ≡ true → k ≤ 10
+mapping-kind-le k known = leb-true k 10 (of-mapping-kind (λ k. leb k 10) refl k known)
+
+-- a test of kinds as a set of bits: kind k's is bit k
+abbrev pub in-set : ℕ → ℕ → Bool
+in-set set k = ltb k 64 && bit k set
+
+pub by-set : (f : ℕ → Bool) (set : ℕ) → ((k : ℕ) → f k ≡ true → mapping-kind k ≡ true) → below (λ k. agrees (f k) (in-set set k)) 64 ≡ true
+    → (k : ℕ) → f k ≡ in-set set k
+by-set f set known = by-test f (in-set set) known (λ k holds. ltb-true k 64 (and-eq-true-iff (ltb k 64) (bit k set) .0 holds .0))
 
 -- a record or event has a kind byte
 pub length-of-positive : (kind : ℕ) → 0 < length-of kind
 unfolding length-of
 length-of-positive kind = omega arith
 
--- a mapping's record has at most 22 bytes
-pub length-of-mapping-le : (kind : ℕ) → mapping-kind kind ≡ true → length-of kind ≤ 22
+-- a mapping's record has at most 23 bytes
+pub length-of-mapping-le : (kind : ℕ) → mapping-kind kind ≡ true → length-of kind ≤ 23
 unfolding length-of body-of
-length-of-mapping-le k known = leb-true (length-of k) 22 (of-mapping-kind (λ k. leb (length-of k) 22) refl k known)
+length-of-mapping-le k known = leb-true (length-of k) 23 (of-mapping-kind (λ k. leb (length-of k) 23) refl k known)
 
 -- a field of a body ends within it
 pub field-within : (b : Body) (f : Field) → offset-in b f + width-in b f ≤ bytes-of b

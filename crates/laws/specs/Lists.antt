@@ -13,6 +13,9 @@ pub data Every {A : Type 0} (P : A → Type 0) : List A → Type 0 where
   none : Every P []
   more : {x : A} {xs : List A} → P x → Every P xs → Every P (x ∷ xs)
 
+pub every-one : {A : Type 0} {P : A → Type 0} {x : A} → P x → Every P (x ∷ [])
+every-one p = more p none
+
 pub every-append : {A : Type 0} {P : A → Type 0} {xs ys : List A} → Every P xs → Every P ys → Every P (xs ++ ys)
 every-append none k = k
 every-append (more p h) k = more p (every-append h k)

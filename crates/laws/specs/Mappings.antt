@@ -8,14 +8,13 @@ use native.Mathlib.Nat.{le-trans}
 use native.Mathlib.Omega.{arith}
 use lib.Dec.{eqb, leb, lit<}
 use lib.ListN.{length, take, length-append}
-use lib.Seq.{length-take-le}
+use lib.Seq.{getD-take, length-take-le}
 use borrow.Author.Tests.{eqb-true, leb-true, le-leb, lt-leb}
 use Rattle.model.specs.Bits.{number}
 use Rattle.model.specs.Layouts.{Field, Sort, sort-number, kind-of, mapping-kind, body-of, length-of}
-use Rattle.model.specs.Mappings.{mapping, Held, of-sort, linear, guest-physical, combined, structure-cache, global-marked, fields-in-range, starts-record, record-length, reading}
-use Rattle.model.specs.declared.Reading.the-variants.{Record, Nothing}
+use Rattle.model.specs.Mappings.{mapping, Held, of-sort, linear, guest-physical, combined, structure-cache, wide, other-width, global-marked, fields-in-range, starts-record, record-length}
 use Rattle.laws.specs.Lists.{Agree, agree-append, agree-take}
-use Rattle.laws.specs.Layouts.{of-mapping-kind, field-by-test, agrees, agrees-true, agrees-below, mapping-kind-below, below, row-test-known, kind-agree, field-agree, length-of-positive}
+use Rattle.laws.specs.Layouts.{of-mapping-kind, field-by-test, mapping-kind-below, small-eqb, small-range, small-or, by-test, in-set, by-set, row-test-known, kind-agree, field-agree, length-of-positive}
 
 -- only a known kind has a sort, is a structure cache, or carries a global mark
 of-sort-known : (s : Sort) (k : ℕ) → of-sort s k ≡ true → mapping-kind k ≡ true
@@ -48,46 +47,78 @@ pub global-marked-known : (k : ℕ) → global-marked k ≡ true → mapping-kin
 unfolding global-marked
 global-marked-known k holds = tagged-known k (and-eq-true-iff (linear k || combined k) (not (structure-cache k)) .0 holds .0)
 
--- the kinds of each sort, the structure caches, and those with a global mark, by number
-either-below : (a b : ℕ) → a < 64 → b < 64 → (k : ℕ) → (eqb k a || eqb k b) ≡ true → k < 64
-either-below a b ha hb k = go (eqb k a) (eqb k b) refl refl
-  where
-    go : (x y : Bool) → eqb k a ≡ x → eqb k b ≡ y → (x || y) ≡ true → k < 64
-    go true y p q h = omega (arith, eqb-true k a p)
-    go false true p q h = omega (arith, eqb-true k b q)
-    go false false p q h = absurd (false≢true h)
+pub wide-known : (k : ℕ) → wide k ≡ true → mapping-kind k ≡ true
+unfolding wide
+wide-known = row-test-known (λ row. eqb (row .address-bits) 57)
 
-by-numbers : (f : ℕ → Bool) (a b : ℕ) → a < 64 → b < 64 → ((k : ℕ) → f k ≡ true → mapping-kind k ≡ true) → below (λ k. agrees (f k) (eqb k a || eqb k b)) 64 ≡ true → (k : ℕ) → f k ≡ (eqb k a || eqb k b)
-by-numbers f a b ha hb known all =
-    agrees-below f (λ k. eqb k a || eqb k b) 64 all (λ k holds. mapping-kind-below k (known k holds)) (either-below a b ha hb)
-
-pub linear-numbers : (k : ℕ) → linear k ≡ (eqb k 1 || eqb k 4)
+-- the kinds of each sort, the structure caches, those with a global mark and those of 57 bits, as sets or by number
+pub linear-set : (k : ℕ) → linear k ≡ in-set 0x292 k
 unfolding linear
-linear-numbers = by-numbers linear 1 4 (lit< tt) (lit< tt) linear-known refl
+linear-set = by-set linear 0x292 linear-known refl
 
 pub guest-physical-numbers : (k : ℕ) → guest-physical k ≡ (eqb k 2 || eqb k 5)
 unfolding guest-physical
-guest-physical-numbers = by-numbers guest-physical 2 5 (lit< tt) (lit< tt) guest-physical-known refl
+guest-physical-numbers =
+    by-test guest-physical (λ k. eqb k 2 || eqb k 5) guest-physical-known
+    (small-or (λ k. eqb k 2) (λ k. eqb k 5) (small-eqb 2 (lit< tt)) (small-eqb 5 (lit< tt)))
+    refl
 
-pub combined-numbers : (k : ℕ) → combined k ≡ (eqb k 3 || eqb k 6)
+pub combined-set : (k : ℕ) → combined k ≡ in-set 0x548 k
 unfolding combined
-combined-numbers = by-numbers combined 3 6 (lit< tt) (lit< tt) combined-known refl
+combined-set = by-set combined 0x548 combined-known refl
 
-pub translation-range : (k : ℕ) → mapping-kind k ≡ true → not (structure-cache k) ≡ leb k 3
-unfolding structure-cache
-translation-range k known =
-    agrees-true (not (structure-cache k)) (leb k 3) (of-mapping-kind (λ k. agrees (not (structure-cache k)) (leb k 3)) refl k known)
-
-pub global-marked-numbers : (k : ℕ) → global-marked k ≡ (eqb k 1 || eqb k 3)
-unfolding global-marked linear combined structure-cache
-global-marked-numbers = by-numbers global-marked 1 3 (lit< tt) (lit< tt) global-marked-known refl
-
-pub structure-cache-range : (k : ℕ) → structure-cache k ≡ (leb 4 k && leb k 6)
+pub structure-cache-range : (k : ℕ) → structure-cache k ≡ ((leb 4 k && leb k 6) || (leb 9 k && leb k 10))
 unfolding structure-cache
 structure-cache-range =
-    agrees-below structure-cache (λ k. leb 4 k && leb k 6) 64 refl
-    (λ k is. mapping-kind-below k (structure-cache-known k is))
-    (λ k holds. omega (arith, leb-true k 6 (and-eq-true-iff (leb 4 k) (leb k 6) .0 holds .1)))
+    by-test structure-cache (λ k. (leb 4 k && leb k 6) || (leb 9 k && leb k 10)) structure-cache-known
+    (small-or (λ k. leb 4 k && leb k 6) (λ k. leb 9 k && leb k 10) (small-range 4 6 (lit< tt)) (small-range 9 10 (lit< tt)))
+    refl
+
+pub global-marked-numbers : (k : ℕ) → global-marked k ≡ ((eqb k 1 || eqb k 3) || (leb 7 k && leb k 8))
+unfolding global-marked linear combined structure-cache
+global-marked-numbers =
+    by-test global-marked (λ k. (eqb k 1 || eqb k 3) || (leb 7 k && leb k 8)) global-marked-known
+    (small-or (λ k. eqb k 1 || eqb k 3) (λ k. leb 7 k && leb k 8)
+    (small-or (λ k. eqb k 1) (λ k. eqb k 3) (small-eqb 1 (lit< tt)) (small-eqb 3 (lit< tt)))
+    (small-range 7 8 (lit< tt)))
+    refl
+
+pub wide-range : (k : ℕ) → wide k ≡ (leb 7 k && leb k 10)
+unfolding wide
+wide-range = by-test wide (λ k. leb 7 k && leb k 10) wide-known (small-range 7 10 (lit< tt)) refl
+
+-- the kinds of mappings that are of 48 bits, and of 57
+pub of-48-range : (k : ℕ) → (mapping-kind k && not (wide k)) ≡ (leb 1 k && leb k 6)
+unfolding mapping-kind wide
+of-48-range =
+    by-test (λ k. mapping-kind k && not (wide k)) (λ k. leb 1 k && leb k 6) (λ k h. and-eq-true-iff (mapping-kind k) (not (wide k)) .0 h .0)
+    (small-range 1 6 (lit< tt))
+    refl
+
+pub of-57-kinds : (k : ℕ) → (mapping-kind k && not ((linear k || combined k) && not (wide k))) ≡ (guest-physical k || wide k)
+unfolding mapping-kind linear combined guest-physical wide
+of-57-kinds =
+    by-test (λ k. mapping-kind k && not ((linear k || combined k) && not (wide k))) (λ k. guest-physical k || wide k)
+    (λ k h. and-eq-true-iff (mapping-kind k) (not ((linear k || combined k) && not (wide k))) .0 h .0)
+    (small-or guest-physical wide (λ k h. mapping-kind-below k (guest-physical-known k h)) (λ k h. mapping-kind-below k (wide-known k h)))
+    refl
+
+-- those of 48 bits: linear and combined ones that are not wide
+narrow-known : (k : ℕ) → ((linear k || combined k) && not (wide k)) ≡ true → mapping-kind k ≡ true
+narrow-known k h = tagged-known k (and-eq-true-iff (linear k || combined k) (not (wide k)) .0 h .0)
+
+pub narrow-set : (k : ℕ) → ((linear k || combined k) && not (wide k)) ≡ in-set 0x5A k
+unfolding linear combined wide
+narrow-set = by-set (λ k. (linear k || combined k) && not (wide k)) 0x5A narrow-known refl
+
+-- a kind of the other linear width is a mapping's
+pub other-width-known : (w k : ℕ) → other-width w k ≡ true → mapping-kind k ≡ true
+unfolding other-width
+other-width-known w k = go (eqb w 57)
+  where
+    go : (b : Bool) → cond b ((linear k || combined k) && not (wide k)) (wide k) ≡ true → mapping-kind k ≡ true
+    go true = narrow-known k
+    go false = wide-known k
 
 -- a mapping is read off the bytes of its record: bytes after it do not matter
 pub mapping-agree : (r t : List ℕ) → Agree (length-of (kind-of t)) r t → mapping r ≡ mapping t
@@ -103,6 +134,10 @@ mapping-agree r t h =
       frame = field-agree Field.frame r t h i;
       ep4ta = field-agree Field.ep4ta r t h i;
     }
+
+pub kind-of-take : (n : ℕ) (t : List ℕ) → (n ≡ 0 → ⊥) → kind-of (take n t) ≡ kind-of t
+unfolding kind-of
+kind-of-take n t some = getD-take n t 0 0 (omega arith)
 
 pub mapping-take : (n : ℕ) (t : List ℕ) → length-of (kind-of t) ≤ n → mapping (take n t) ≡ mapping t
 mapping-take n t h = mapping-agree (take n t) t (agree-take (length-of (kind-of t)) n t h)
@@ -206,15 +241,6 @@ record-length-le r = go (starts-record r) refl
     go : (b : Bool) → starts-record r ≡ b → record-length r ≤ length r
     go true e = omega (arith, record-length-starts r e, starts-parts r e .held .fits)
     go false e = omega (arith, record-length-none r e)
-
--- what the record reader answers, by the length
-pub reading-nothing : (r : List ℕ) → record-length r ≡ 0 → reading r ≡ Nothing
-unfolding reading
-reading-nothing r none = rw (starts-record-length-zero r none)
-
-pub reading-record : (r : List ℕ) → 0 < record-length r → reading r ≡ Record (mapping r) (record-length r)
-unfolding reading record-length
-reading-record r some = rw (starts-record-length r some)
 
 -- bytes after a record do not matter for its length
 pub record-length-agree : (r t : List ℕ) → Agree (length-of (kind-of t)) r t → length-of (kind-of t) ≤ length r

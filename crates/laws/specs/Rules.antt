@@ -76,7 +76,7 @@ rule-below-8 c e n below = rw (ne-eqb n 8 (λ z. omega arith), ne-eqb n 10 (λ z
 
 pub table-answer-below-8 : (c : Context) (t : List ℕ) → first (table-grounds c t) < 8
 unfolding first table-grounds
-table-answer-below-8 c t = go (not (in-range c)) (ltb limit (length t)) (not (valid-table t))
+table-answer-below-8 c t = go (not (in-range c)) (ltb limit (length t)) (not (valid-table (c .«linear_width») t))
   where
     go : (one two three : Bool) → cond one 1 (cond two 2 (cond three 3 0)) < 8
     go true two three = omega arith

@@ -15,13 +15,14 @@ use Rattle.model.specs.Layouts.{kind-of, mapping-kind}
 use Rattle.model.specs.Tables.{limit, joined, records, whole, only}
 use Rattle.model.specs.Events.{event, valid-event}
 use Rattle.model.specs.Scopes.{next-context}
-use Rattle.model.specs.Answers.{first, created, no-room, table-grounds, answer, rule-with}
+use Rattle.model.specs.Answers.{first, created, no-room, valid-table, table-grounds, answer, rule-with}
 use Rattle.model.specs.Steps.{in-scope, new-table, dropped-count, accepted-step, refusal, refused-step, stepped, written}
 use Rattle.laws.specs.Lists.{Every, none, more, every-head, every-tail, every-append}
 use Rattle.laws.specs.Mappings.{Valid}
 use Rattle.laws.specs.Tables.{joined-append, joined-one, every-only, records-valid, records-joined, joined-whole, length-joined-only, length-joined-records}
-use Rattle.laws.specs.Events.{creation-valid}
-use Rattle.laws.specs.Answers.{first-zero}
+use Rattle.laws.specs.Events.{creation-valid, creation-fields}
+use Rattle.laws.specs.Context.{linear-width-next}
+use Rattle.laws.specs.Answers.{OfWidth, first-zero, valid-table-parts, valid-table-made, Accepted}
 
 -- the bytes that an event adds: a creation's own, or none
 pub created-creation : (e : List ℕ) → mapping-kind (kind-of e) ≡ true → created e ≡ e
@@ -40,19 +41,20 @@ length-created e = go (mapping-kind (kind-of e))
     go true = omega arith
     go false = omega arith
 
--- there is no room where the buffer or the limit is too short, and else there is
-pub no-room-either : (room : ℕ) (t e : List ℕ)
-    → (ltb room (length t + length (created e)) || ltb limit (length t + length (created e))) ≡ no-room room t e
-unfolding no-room
-no-room-either room t e = go (ltb room n) (ltb limit n) refl refl
+-- the buffer or the limit is too short for so many bytes
+pub below-either : (room n : ℕ) → (ltb room n || ltb limit n) ≡ ltb (min room limit) n
+below-either room n = go (ltb room n) (ltb limit n) refl refl
   where
-    n : ℕ
-    n = length t + length (created e)
-
     go : (p q : Bool) → ltb room n ≡ p → ltb limit n ≡ q → (p || q) ≡ ltb (min room limit) n
     go true q h k = sym (lt-ltb (min room limit) n (omega (arith, ltb-true room n h)))
     go false true h k = sym (lt-ltb (min room limit) n (omega (arith, ltb-true limit n k)))
     go false false h k = sym (le-ltb (min room limit) n (omega (arith, ltb-false room n h, ltb-false limit n k)))
+
+-- there is no room where the buffer or the limit is too short, and else there is
+pub no-room-either : (room : ℕ) (t e : List ℕ)
+    → (ltb room (length t + length (created e)) || ltb limit (length t + length (created e))) ≡ no-room room t e
+unfolding no-room
+no-room-either room t e = below-either room (length t + length (created e))
 
 pub no-room-fits : (room : ℕ) (t e : List ℕ) → no-room room t e ≡ false → length t + length (created e) ≤ room
 unfolding no-room
@@ -61,7 +63,8 @@ no-room-fits room t e h = omega (arith, ltb-false (min room limit) (length t + l
 -- a table to which answers 1 to 3 do not apply is whole
 pub judged-whole : (c : Context) (t : List ℕ) → first (table-grounds c t) ≡ 0 → whole t ≡ true
 unfolding table-grounds
-judged-whole c t h = not-false (whole t) (every-head (every-tail (every-tail (first-zero (table-grounds c t) refl h))))
+judged-whole c t h =
+    valid-table-parts (c .«linear_width») t (not-false (valid-table (c .«linear_width») t) (every-head (every-tail (every-tail (first-zero (table-grounds c t) refl h))))) .0
 
 -- the record that an event adds to the table, if it is a creation
 unfoldable pub creation : List ℕ → List (List ℕ)
@@ -75,12 +78,20 @@ joined-creation e = go (mapping-kind (kind-of e))
     go true = joined-one e
     go false = refl
 
-pub creation-every-valid : (e : List ℕ) → valid-event e ≡ true → Every Valid (creation e)
+pub creation-every-valid : (w : ℕ) (e : List ℕ) → valid-event w e ≡ true → Every Valid (creation e)
 unfolding creation
-creation-every-valid e v = go (mapping-kind (kind-of e)) refl
+creation-every-valid w e v = go (mapping-kind (kind-of e)) refl
   where
     go : (b : Bool) → mapping-kind (kind-of e) ≡ b → Every Valid (cond b (e ∷ []) [])
-    go true k = more (creation-valid e v k) none
+    go true k = more (creation-valid w e v k) none
+    go false k = none
+
+pub creation-of-width : (w : ℕ) (e : List ℕ) → valid-event w e ≡ true → Every (OfWidth w) (creation e)
+unfolding creation
+creation-of-width w e v = go (mapping-kind (kind-of e)) refl
+  where
+    go : (b : Bool) → mapping-kind (kind-of e) ≡ b → Every (OfWidth w) (cond b (e ∷ []) [])
+    go true k = more (creation-fields w e v k .1) none
     go false k = none
 
 -- the records of the table after an accepted event
@@ -91,15 +102,25 @@ pub new-table-joined : (c : Context) (t e : List ℕ) → new-table c t e ≡ jo
 unfolding new-table new-records
 new-table-joined c t e = rw (joined-append, joined-creation)
 
-pub new-records-valid : (c : Context) (t e : List ℕ) → valid-event e ≡ true → Every Valid (new-records c t e)
+pub new-records-valid : (w : ℕ) (c : Context) (t e : List ℕ) → valid-event w e ≡ true → Every Valid (new-records c t e)
 unfolding new-records
-new-records-valid c t e v = every-append (every-only (λ r. not (in-scope c e r)) (records-valid t)) (creation-every-valid e v)
+new-records-valid w c t e v = every-append (every-only (λ r. not (in-scope c e r)) (records-valid t)) (creation-every-valid w e v)
 
-pub records-new-table : (c : Context) (t e : List ℕ) → valid-event e ≡ true → records (new-table c t e) ≡ new-records c t e
-records-new-table c t e v = rw new-table-joined (records-joined (new-records-valid c t e v))
+pub records-new-table : (w : ℕ) (c : Context) (t e : List ℕ) → valid-event w e ≡ true → records (new-table c t e) ≡ new-records c t e
+records-new-table w c t e v = rw new-table-joined (records-joined (new-records-valid w c t e v))
 
-pub new-table-whole : (c : Context) (t e : List ℕ) → valid-event e ≡ true → whole (new-table c t e) ≡ true
-new-table-whole c t e v = rw new-table-joined (joined-whole (new-records-valid c t e v))
+pub new-table-whole : (w : ℕ) (c : Context) (t e : List ℕ) → valid-event w e ≡ true → whole (new-table c t e) ≡ true
+new-table-whole w c t e v = rw new-table-joined (joined-whole (new-records-valid w c t e v))
+
+-- it is valid in the context after the event, whose linear width is that before it
+pub new-table-valid : (c : Context) (t e : List ℕ) (room : ℕ) → Accepted c t e room → valid-table (next-context c (event e) .«linear_width») (new-table c t e) ≡ true
+unfolding new-records
+new-table-valid c t e room a =
+    let w = c .«linear_width» in
+    let before = valid-table-parts w t (a .table) .1 in
+    let after : Every (OfWidth w) (new-records c t e) = every-append (every-only (λ r. not (in-scope c e r)) before) (creation-of-width w e (a .valid)) in
+    valid-table-made (next-context c (event e) .«linear_width») (new-table c t e) (new-table-whole w c t e (a .valid))
+    (rw (linear-width-next, records-new-table w c t e (a .valid)) after)
 
 pub length-new-table : (c : Context) (t e : List ℕ) → length (new-table c t e) ≤ length t + length (created e)
 unfolding new-table

@@ -56,9 +56,9 @@ unfoldable pub rows : List Line → List ℕ
 rows [] = []
 rows (l ∷ ls) = row l ++ rows ls
 
--- the events of a log for which there is a row in a buffer of so many bytes
-unfoldable pub replayed : List ℕ → ℕ → List (List ℕ)
-replayed log room = take (room / row-length) (events-of log)
+-- the events of a log, read at a linear width, for which there is a row in a buffer of so many bytes
+unfoldable pub replayed : ℕ → List ℕ → ℕ → List (List ℕ)
+replayed width log room = take (room / row-length) (events-of width log)
 
 -- the buffer that holds the table in force, and the other one
 abbrev pub front-of : Replayed → List ℕ → List ℕ → List ℕ
@@ -71,20 +71,20 @@ back-of r a b = cond (r .first) b a
 -- lines there are, which buffer holds the table, the two buffers and the lines as rows, all of them the
 -- run's, for buffers of any length
 pub record Replays (c : Context) (log a b out : List ℕ) (r : Replayed) (a′ b′ out′ : List ℕ) : Type 0 where
-  pub context : r .context ≡ run-of (started c a b) (replayed log (length out)) .context
-  pub size : r .length ≡ length (run-of (started c a b) (replayed log (length out)) .table)
-  pub count : r .count ≡ length (run-lines (started c a b) (replayed log (length out)))
-  pub first : r .first ≡ side-ended true (started c a b) (replayed log (length out))
-  pub table : take (r .length) (front-of r a′ b′) ≡ run-of (started c a b) (replayed log (length out)) .table
-  pub front : front-of r a′ b′ ≡ run-of (started c a b) (replayed log (length out)) .front
-  pub back : back-of r a′ b′ ≡ run-of (started c a b) (replayed log (length out)) .back
-  pub lines : out′ ≡ put 0 (rows (run-lines (started c a b) (replayed log (length out)))) out
+  pub context : r .context ≡ run-of (started c a b) (replayed (c .«linear_width») log (length out)) .context
+  pub size : r .length ≡ length (run-of (started c a b) (replayed (c .«linear_width») log (length out)) .table)
+  pub count : r .count ≡ length (run-lines (started c a b) (replayed (c .«linear_width») log (length out)))
+  pub first : r .first ≡ side-ended true (started c a b) (replayed (c .«linear_width») log (length out))
+  pub table : take (r .length) (front-of r a′ b′) ≡ run-of (started c a b) (replayed (c .«linear_width») log (length out)) .table
+  pub front : front-of r a′ b′ ≡ run-of (started c a b) (replayed (c .«linear_width») log (length out)) .front
+  pub back : back-of r a′ b′ ≡ run-of (started c a b) (replayed (c .«linear_width») log (length out)) .back
+  pub lines : out′ ≡ put 0 (rows (run-lines (started c a b) (replayed (c .«linear_width») log (length out)))) out
 
--- with buffers of at least 45,056 bytes: the context, the table byte for byte and the lines are the
+-- with buffers of at least 47,104 bytes: the context, the table byte for byte and the lines are the
 -- book's
 pub record ByTheBook (c : Context) (log out : List ℕ) (r : Replayed) (a′ b′ out′ : List ℕ) : Type 0 where
-  pub context : r .context ≡ book-of (opened c) (replayed log (length out)) .context
-  pub size : r .length ≡ length (book-table (book-of (opened c) (replayed log (length out))))
-  pub count : r .count ≡ length (book-lines (opened c) (replayed log (length out)))
-  pub table : take (r .length) (front-of r a′ b′) ≡ book-table (book-of (opened c) (replayed log (length out)))
-  pub lines : out′ ≡ put 0 (rows (book-lines (opened c) (replayed log (length out)))) out
+  pub context : r .context ≡ book-of (opened c) (replayed (c .«linear_width») log (length out)) .context
+  pub size : r .length ≡ length (book-table (book-of (opened c) (replayed (c .«linear_width») log (length out))))
+  pub count : r .count ≡ length (book-lines (opened c) (replayed (c .«linear_width») log (length out)))
+  pub table : take (r .length) (front-of r a′ b′) ≡ book-table (book-of (opened c) (replayed (c .«linear_width») log (length out)))
+  pub lines : out′ ≡ put 0 (rows (book-lines (opened c) (replayed (c .«linear_width») log (length out)))) out

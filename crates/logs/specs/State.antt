@@ -56,19 +56,19 @@ pub record Ready (p : Progress) (log a b : List ℕ) : Type 0 where
   pub few : p .count ≤ p .at
 
 -- what the next event of the log does
-pub record Advances (p : Progress) (log a b : List ℕ) (r : Advanced) (a′ b′ : List ℕ) : Type 0 where
+pub record Advances (w : ℕ) (p : Progress) (log a b : List ℕ) (r : Advanced) (a′ b′ : List ℕ) : Type 0 where
   pub ready : Ready (r .progress) log a′ b′
-  pub run : run-at (r .progress .state) a′ b′ ≡ run-after (run-at (p .state) a b) (event-at log (p .at))
-  pub side : r .progress .state .first ≡ side-after (p .state .first) (run-at (p .state) a b) (event-at log (p .at))
-  pub at : r .progress .at ≡ p .at + event-size (drop (p .at) log)
+  pub run : run-at (r .progress .state) a′ b′ ≡ run-after (run-at (p .state) a b) (event-at w log (p .at))
+  pub side : r .progress .state .first ≡ side-after (p .state .first) (run-at (p .state) a b) (event-at w log (p .at))
+  pub at : r .progress .at ≡ p .at + event-size w (drop (p .at) log)
   pub count : r .progress .count ≡ p .count + 1
-  pub answer : r .answer ≡ run-answer (run-at (p .state) a b) (event-at log (p .at))
-  pub dropped : r .dropped ≡ run-report (run-at (p .state) a b) (event-at log (p .at)) .dropped
+  pub answer : r .answer ≡ run-answer (run-at (p .state) a b) (event-at w log (p .at))
+  pub dropped : r .dropped ≡ run-report (run-at (p .state) a b) (event-at w log (p .at)) .dropped
 
 -- how far a replay is after the next n events, or all that are left
-pub record Progresses (p : Progress) (log a b : List ℕ) (n : ℕ) (q : Progress) (a′ b′ : List ℕ) : Type 0 where
+pub record Progresses (w : ℕ) (p : Progress) (log a b : List ℕ) (n : ℕ) (q : Progress) (a′ b′ : List ℕ) : Type 0 where
   pub ready : Ready q log a′ b′
-  pub run : run-at (q .state) a′ b′ ≡ run-of (run-at (p .state) a b) (events-from log (p .at) n)
-  pub side : q .state .first ≡ side-ended (p .state .first) (run-at (p .state) a b) (events-from log (p .at) n)
-  pub at : q .at ≡ p .at + length (joined (events-from log (p .at) n))
-  pub count : q .count ≡ p .count + length (events-from log (p .at) n)
+  pub run : run-at (q .state) a′ b′ ≡ run-of (run-at (p .state) a b) (events-from w log (p .at) n)
+  pub side : q .state .first ≡ side-ended (p .state .first) (run-at (p .state) a b) (events-from w log (p .at) n)
+  pub at : q .at ≡ p .at + length (joined (events-from w log (p .at) n))
+  pub count : q .count ≡ p .count + length (events-from w log (p .at) n)

@@ -10,7 +10,7 @@ use Rattle.model.specs.Layouts.{kind-of, mapping-kind}
 use Rattle.model.specs.Tables.{limit}
 use Rattle.laws.specs.Context.{Bytes}
 use Rattle.runs.specs.Runs.{Run, started, run-answer, run-after}
-use Rattle.logs.specs.Logs.{program, events-of}
+use Rattle.logs.specs.Logs.{program, program-width, events-of}
 use Rattle.logs.specs.Replays.{Line, run-line, run-lines}
 
 -- "no step of the replay can answer 1, 2 or 3, nor 12 except to a creation"
@@ -30,8 +30,8 @@ stopping-lines s [] = []
 stopping-lines s (e ∷ es) =
     run-line s e ∷ cond (eqb (run-answer s e) 2 || eqb (run-answer s e) 3) [] (stopping-lines (run-after s e) es)
 
--- The program's replay of any log of bytes, "with its own two 45,056-byte buffers"; and the lines of any
+-- The program's replay of any log of bytes, "with its own two 45,056-byte buffers", 47,104 by Ask 12; and the lines of any
 -- replay are those with the stop, whatever the context and the buffers are.
 pub record NoStop : Type 0 where
-  pub answers : (log a b : List ℕ) → Bytes log → limit ≤ length a → limit ≤ length b → EachAnswered (started program a b) (events-of log)
+  pub answers : (log a b : List ℕ) → Bytes log → limit ≤ length a → limit ≤ length b → EachAnswered (started program a b) (events-of program-width log)
   pub lines : (c : Context) (a b : List ℕ) (es : List (List ℕ)) → stopping-lines (started c a b) es ≡ run-lines (started c a b) es

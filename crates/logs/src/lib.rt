@@ -48,23 +48,27 @@ pub struct Advanced {
 }
 
 // How many bytes the first event of a log has by its kind, more than the log where the record is cut; 0
-// where the kind is unknown or there is no byte.
-pub fn length_of_event(log: &[u8]) -> usize
-    ensures { λ r. ⌜ r ≡ told-length (now (log .entry)) ⌝ }
+// where the kind is unknown at the linear width or there is no byte. Any width but 57 is read as 48.
+pub fn length_of_event(width: u64, log: &[u8]) -> usize
+    ensures { λ r. ⌜ r ≡ told-length width (now (log .entry)) ⌝ }
 {
     if log.len() == 0 {
         return 0;
     }
-    kinds::length(numbers::number1(log, 0))
+    let kind = numbers::number1(log, 0);
+    if kinds::is_of_other_width(width, kind) {
+        return 0;
+    }
+    kinds::length(kind)
 }
 
 // How many bytes the first event of a log takes: as many as its kind says, or all that are left where
 // the kind is unknown or the record is cut.
-fn size_of_event(log: &[u8]) -> usize
-    ensures { λ r. ⌜ r ≡ event-size (now (log .entry)) ⌝ }
+fn size_of_event(width: u64, log: &[u8]) -> usize
+    ensures { λ r. ⌜ r ≡ event-size width (now (log .entry)) ⌝ }
 {
     let size = log.len();
-    let length = length_of_event(log);
+    let length = length_of_event(width, log);
     if (length == 0) | (size < length) {
         size
     } else {
@@ -112,7 +116,7 @@ fn apply(state: State, event: &[u8], first: &mut [u8], second: &mut [u8]) -> App
     }
 }
 
-// The start of a replay, from a reset with the capability and width of a context.
+// The start of a replay, from a reset with the capability and widths of a context.
 pub fn start(c: Context) -> Progress
     ensures { λ r. ⌜ r ≡ begun c ⌝ }
 {
@@ -128,15 +132,15 @@ pub fn start(c: Context) -> Progress
     }
 }
 
-// The next event of a log, where there is one, on the table in force.
-pub fn advance(p: Progress, log: &[u8], first: &mut [u8], second: &mut [u8]) -> Advanced
+// The next event of a log, read at a linear width, on the table in force.
+pub fn advance(width: u64, p: Progress, log: &[u8], first: &mut [u8], second: &mut [u8]) -> Advanced
     requires { ⌜ Ready p (now log) (now first) (now second) ⌝ }
     requires { ⌜ p .at < length (now log) ⌝ }
-    ensures { λ r. ⌜ Advances p (now (log .entry)) (now (first .entry)) (now (second .entry)) r (now (first .exit)) (now (second .exit)) ⌝ }
+    ensures { λ r. ⌜ Advances width p (now (log .entry)) (now (first .entry)) (now (second .entry)) r (now (first .exit)) (now (second .exit)) ⌝ }
 {
     let at = p.at;
     let before = p.state;
-    let end = at + size_of_event(&log[at..]);
+    let end = at + size_of_event(width, &log[at..]);
     let applied = apply(before, &log[at..end], first, second);
     let state = applied.state;
     Advanced {
@@ -155,12 +159,12 @@ fn put_row(out: &mut [u8], at: usize, answer: u64, dropped: usize, size: usize)
     requires { ⌜ at + 24 ≤ length (now out) ⌝ }
     ensures { λ _. ⌜ now (out .exit) ≡ put at (row (record { answer = answer; dropped = dropped; length = size })) (now (out .entry)) ⌝ }
 {
-    buffers::put_number(out, at, answer);
-    buffers::put_number(out, at + 8, dropped as u64);
-    buffers::put_number(out, at + 16, size as u64);
+    buffers::put_number(out, at, 8, answer);
+    buffers::put_number(out, at + 8, 8, dropped as u64);
+    buffers::put_number(out, at + 16, 8, size as u64);
 }
 
-// Replays the events of a log from a reset, with the capability and width of a context, through two
+// Replays the events of a log from a reset, with the capability and widths of a context, through two
 // buffers. It writes a row of 24 bytes for each event, and ends after an unknown kind or a cut record, or
 // where there is no room for another row.
 pub fn replay(
@@ -173,10 +177,11 @@ pub fn replay(
     ensures { λ r. ⌜ Replays c (now (log .entry)) (now (first .entry)) (now (second .entry)) (now (rows .entry)) r (now (first .exit)) (now (second .exit)) (now (rows .exit)) ⌝ }
     ensures { λ r. ⌜ (limit ≤ length (now (first .entry)) → limit ≤ length (now (second .entry)) → ByTheBook c (now (log .entry)) (now (rows .entry)) r (now (first .exit)) (now (second .exit)) (now (rows .exit))) ⌝ }
 {
+    let width = c.linear_width;
     let most = rows.len() / 24;
     let mut p = start(c);
     while (p.at < log.len()) & (p.count < most) {
-        let advanced = advance(p, log, first, second);
+        let advanced = advance(width, p, log, first, second);
         let at = 24 * p.count;
         p = advanced.progress;
         put_row(rows, at, advanced.answer, advanced.dropped, p.state.length);

@@ -31,19 +31,20 @@ fn is_usable(c: Context, a: Address, part: &[u8]) -> bool
 {
     let place = c.place;
     let pcid = c.pcid;
+    let width = c.linear_width;
     let vpid = contexts::vpid(place);
     let ept = contexts::ept(place);
     match a {
         Address::Linear(address) => {
-            addresses::is_canonical(address)
-                & mappings::is_covering(part, addresses::page(address))
+            addresses::is_canonical(width, address)
+                & mappings::is_covering(part, addresses::page(width, address))
                 & (mappings::vpid(part) == vpid)
                 & ((mappings::pcid(part) == pcid) | mappings::is_global_translation(part))
                 & is_translating(ept, part)
         }
         Address::GuestPhysical(address) => {
             (address < model::GUEST_PHYSICAL_LIMIT)
-                & mappings::is_covering(part, addresses::page(address))
+                & mappings::is_covering(part, addresses::guest_physical_page(address))
                 & kinds::is_guest_physical(mappings::kind(part))
                 & contexts::is_current_ep4ta(ept, mappings::ep4ta(part))
         }

@@ -2,3 +2,4 @@
 -- in their ranges.
 pub mod Places
 pub mod Ranges
+pub mod Lengths

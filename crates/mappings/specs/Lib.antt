@@ -1,2 +1,3 @@
 pub mod Spans
+pub mod Lengths
 pub mod Laws

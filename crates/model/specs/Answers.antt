@@ -16,7 +16,7 @@ use Rattle.model.specs.Bits.{bits, bit}
 use Rattle.model.specs.Context.{in-range, outside, in-root, in-guest, current-vpid, current-ept}
 use Rattle.model.specs.Layouts.{kind-of, mapping-kind}
 use Rattle.model.specs.Mappings.{linear, guest-physical, combined}
-use Rattle.model.specs.Tables.{limit, whole}
+use Rattle.model.specs.Tables.{limit, records, whole, of-width}
 use Rattle.model.specs.Events.{canonical, event, valid-event}
 use Rattle.model.specs.Scopes.{is-current-ep4ta, vpid-named}
 
@@ -102,7 +102,7 @@ bad-invvpid c o =
     not (invvpid-supported (c .capability) (o .«type_number»))
     || not (eqb (bits 63 16 (o .low)) 0)
     || (eqb (vpid-named o) 0 && not (eqb (o .«type_number») 2))
-    || (eqb (o .«type_number») 0 && not (canonical (o .high)))
+    || (eqb (o .«type_number») 0 && not (canonical (c .«linear_width») (o .high)))
 
 -- "a type other than 1 (bit 25) or 2 (bit 26)"
 unfoldable pub invept-supported : ℕ → ℕ → Bool
@@ -134,11 +134,11 @@ general-protection c e = among (kind-number e) (16 ∷ 17 ∷ 18 ∷ 20 ∷ 22 �
 
 -- Ask 5: "A type above 3, reserved bits set, or type 0 with a non-canonical address is answer 7". The reserved bits
 -- of the descriptor are 63:12, for every type.
-unfoldable pub bad-invpcid : Operands → Bool
-bad-invpcid o =
+unfoldable pub bad-invpcid : Context → Operands → Bool
+bad-invpcid c o =
     ltb 3 (o .«type_number»)
     || not (eqb (bits 63 12 (o .low)) 0)
-    || (eqb (o .«type_number») 0 && not (canonical (o .high)))
+    || (eqb (o .«type_number») 0 && not (canonical (c .«linear_width») (o .high)))
 
 -- EPT is in use
 abbrev pub ept-in-use : Ept → Bool
@@ -179,7 +179,7 @@ own-ground c Vmxon = cond (in-root (c .place)) 9 0
 own-ground c Vmxoff = 0
 own-ground c (NewPcid n) = 0
 own-ground c Reset = 0
-own-ground c (Invpcid o) = cond (bad-invpcid o) 7 0
+own-ground c (Invpcid o) = cond (bad-invpcid c o) 7 0
 own-ground c (MovToCr3 pcid) = 0
 
 -- Ask 6: the rule that the EPTP of an event breaks where it comes to that, else 0. "For INVEPT the type and
@@ -209,21 +209,26 @@ rule-with c e answer = cond (among answer (8 ∷ 10 ∷ [])) (own-rule c (event 
 unfoldable pub created : List ℕ → List ℕ
 created e = cond (mapping-kind (kind-of e)) e []
 
--- 12, "the new buffer, or 45,056, is less than the old table's length, plus the record's length for a
+-- 12, "the new buffer, or 45,056 [47,104 by Ask 12], is less than the old table's length, plus the record's length for a
 -- creation"; room is the length of the new buffer
 unfoldable pub no-room : ℕ → List ℕ → List ℕ → Bool
 no-room room t e = ltb (min room limit) (length t + length (created e))
 
--- 3 and 4 are given where these fail: the table is whole, valid records, the event exactly one
-abbrev pub valid-table : List ℕ → Bool
-valid-table t = whole t
+-- 3 and 4 are given where these fail: the table is whole, valid records, the event exactly one. "Width 48 refuses the
+-- new kinds and width 57 refuses kinds 1, 3, 4 and 6, as answers 3 and 4." (Ask 12)
+unfoldable pub valid-table : ℕ → List ℕ → Bool
+valid-table width t = whole t && of-width width (records t)
 
-abbrev pub valid-here : List ℕ → Bool
-valid-here e = valid-event e
+abbrev pub valid-here : Context → List ℕ → Bool
+valid-here c e = valid-event (c .«linear_width») e
+
+-- 2 and 3, of a table at a linear width
+abbrev pub stored-grounds : ℕ → List ℕ → List (ℕ × Bool)
+stored-grounds width t = (2, ltb limit (length t)) ∷ (3, not (valid-table width t)) ∷ []
 
 -- 1 to 3, of the context and the old table
 unfoldable pub table-grounds : Context → List ℕ → List (ℕ × Bool)
-table-grounds c t = (1, not (in-range c)) ∷ (2, ltb limit (length t)) ∷ (3, not (valid-table t)) ∷ []
+table-grounds c t = (1, not (in-range c)) ∷ stored-grounds (c .«linear_width») t
 
 -- 5 to 11, of the context and the event
 unfoldable pub event-grounds : Context → Event → List (ℕ × Bool)
@@ -247,7 +252,7 @@ event-answer c e = first (event-grounds c e)
 unfoldable pub grounds : Context → List ℕ → List ℕ → ℕ → List (ℕ × Bool)
 grounds c t e room =
     table-grounds c t
-    ++ ((4, not (valid-here e)) ∷ [])
+    ++ ((4, not (valid-here c e)) ∷ [])
     ++ event-grounds c (event e)
     ++ ((12, no-room room t e) ∷ [])
 

@@ -1,6 +1,6 @@
 -- Bits and little-endian numbers.
 use Prim.Native.Nat.{ℕ, zero, suc, _+_, _-_, _*_, _/_, _%_, _^_}
-use mathlib.Core.Bool.{Bool}
+use mathlib.Core.Bool.{Bool, cond}
 use mathlib.Core.List.{List, [], _∷_}
 use lib.Dec.{eqb}
 use lib.ListN.{getD}
@@ -13,10 +13,12 @@ bits high low x = x / 2 ^ low % 2 ^ (high + 1 - low)
 abbrev pub bit : ℕ → ℕ → Bool
 bit n x = eqb (x / 2 ^ n % 2) 1
 
--- linear addresses have 48 bits, and so have guest-physical ones; a page has 2^12 bytes
-abbrev pub linear-width : ℕ
-linear-width = 48
+-- how many bits a linear address has, by the context's linear width (document 02, Ask 12): 57 or 48. Any width but 57
+-- is read as 48; a step or lookup refuses such a context with 1 before it comes to that.
+abbrev pub linear-bits : ℕ → ℕ
+linear-bits width = cond (eqb width 57) 57 48
 
+-- guest-physical addresses have 48 bits; a page has 2^12 bytes
 abbrev pub guest-physical-width : ℕ
 guest-physical-width = 48
 

@@ -18,11 +18,11 @@ use Rattle.model.specs.Bits.{bytes}
 use Rattle.model.specs.Buffers.{put}
 use Rattle.model.specs.Context.{in-range, after-reset}
 use Rattle.model.specs.Layouts.{kind-of, mapping-kind, event-kind, body-of, length-of, field}
-use Rattle.model.specs.Mappings.{mapping, structure-cache, global-marked, fields-in-range, starts-record, record-length, covers}
-use Rattle.model.specs.Tables.{joined, cut, records-within, records, whole, only, count}
+use Rattle.model.specs.Mappings.{mapping, structure-cache, global-marked, fields-in-range, starts-record, other-width, wide, record-length, covers}
+use Rattle.model.specs.Tables.{joined, cut, records-within, records, whole, of-width, only, count}
 use Rattle.model.specs.Events.{canonical, operands, violation, entry, new-pcid, event, event-in-range, valid-event}
 use Rattle.model.specs.Scopes.{invvpid-tests, invept-tests, invlpg-tests, guest-physical-violation-tests, combined-violation-tests, violation-tests, transition-tests, invpcid-tests, mov-to-cr3-tests, has-scope, scope, entered, next-context}
-use Rattle.model.specs.Answers.{first, good-eptp, eptp-rule, own-rule, rule-with, invvpid-supported, bad-invvpid, invept-supported, bad-invept, bad-invpcid, invalid-opcode, exits, general-protection, bad-entry, creatable, own-ground, created, no-room, table-grounds, event-grounds, grounds, answer}
+use Rattle.model.specs.Answers.{first, good-eptp, eptp-rule, own-rule, rule-with, invvpid-supported, bad-invvpid, invept-supported, bad-invept, bad-invpcid, invalid-opcode, exits, general-protection, bad-entry, creatable, own-ground, created, no-room, valid-table, table-grounds, event-grounds, grounds, answer}
 use Rattle.model.specs.Steps.{new-table, dropped-count, accepted-step, refused-step, stepped, written}
 use Rattle.model.specs.Lookups.{translates-linear, usable, usable-records, lookup-answer, lookup, start-of, lookup-start}
 use Rattle.model.specs.Reasons.{first-failed, reason, one-record, explained-answer, explanation, explanation-number, explanation-answer, explanation-rule}
@@ -44,7 +44,7 @@ place-numbers Root = 1 ∷ []
 place-numbers (Guest g) = 2 ∷ g .vpid ∷ ept-numbers (g .ept)
 
 numbers : Context → List ℕ
-numbers c = c .capability ∷ c .width ∷ c .pcid ∷ c .cpl ∷ place-numbers (c .place)
+numbers c = c .capability ∷ c .width ∷ c .«linear_width» ∷ c .pcid ∷ c .cpl ∷ place-numbers (c .place)
 
 -- a new buffer of 64 bytes, which no step may write past its new table
 buffer : List ℕ
@@ -109,10 +109,21 @@ without-21 = 2 ^ 6 + 2 ^ 8 + 2 ^ 14 + 2 ^ 20 + 2 ^ 25 + 2 ^ 26 + 2 ^ 32 + 2 ^ 40
 program : ℕ
 program = without-21 + 2 ^ 21
 
--- "Root, CPL 0, program's capability", PCID 0 and N = 52 unless said
+-- a context of a linear width
+at-width : ℕ → ℕ → ℕ → ℕ → ℕ → Place → Context
+at-width linear-width capability width pcid cpl place =
+    record {
+      capability = capability;
+      width = width;
+      «linear_width» = linear-width;
+      pcid = pcid;
+      cpl = cpl;
+      place = place;
+    }
+
+-- "Root, CPL 0, program's capability", PCID 0 and N = 52 unless said. "the bench cards run at 48" (document 02, Ask 12)
 at : ℕ → ℕ → ℕ → ℕ → Place → Context
-at capability width pcid cpl place =
-    record { capability = capability; width = width; pcid = pcid; cpl = cpl; place = place }
+at = at-width 48
 
 root : Context
 root = at program 52 0 0 Root
@@ -168,6 +179,31 @@ guest-physical-structure span page = 5 ∷ bytes 5 0x1234567 ++ (span ∷ []) ++
 combined-structure : ℕ → ℕ → ℕ → ℕ → List ℕ
 combined-structure vpid pcid span page =
     6 ∷ bytes 2 vpid ++ bytes 2 pcid ++ (span ∷ []) ++ bytes 5 page ++ bytes 5 9 ++ bytes 5 0x1234567
+
+-- document 02, Ask 12: contexts of linear width 57, and the kinds 7 to 10
+root-57 : Context
+root-57 = at-width 57 program 52 0 0 Root
+
+guest-57 : ℕ → Context
+guest-57 vpid = at-width 57 program 52 1 0 (Guest (record { vpid = vpid; ept = Off }))
+
+ept-guest-57 : ℕ → Context
+ept-guest-57 vpid = at-width 57 program 52 1 0 (Guest (record { vpid = vpid; ept = On 0x1234567 }))
+
+linear-57 : ℕ → ℕ → ℕ → ℕ → ℕ → List ℕ
+linear-57 vpid pcid global span page =
+    7 ∷ bytes 2 vpid ++ bytes 2 pcid ++ (global ∷ span ∷ []) ++ bytes 6 page ++ bytes 5 0xABCDE
+
+combined-57 : ℕ → ℕ → ℕ → ℕ → ℕ → List ℕ
+combined-57 vpid pcid global span page =
+    8 ∷ bytes 2 vpid ++ bytes 2 pcid ++ (global ∷ span ∷ []) ++ bytes 6 page ++ bytes 5 7 ++ bytes 5 0x1234567
+
+linear-structure-57 : ℕ → ℕ → ℕ → ℕ → List ℕ
+linear-structure-57 vpid pcid span page = 9 ∷ bytes 2 vpid ++ bytes 2 pcid ++ (span ∷ []) ++ bytes 6 page ++ bytes 5 9
+
+combined-structure-57 : ℕ → ℕ → ℕ → ℕ → List ℕ
+combined-structure-57 vpid pcid span page =
+    10 ∷ bytes 2 vpid ++ bytes 2 pcid ++ (span ∷ []) ++ bytes 6 page ++ bytes 5 9 ++ bytes 5 0x1234567
 
 -- a table of each translation, and of each structure cache; the latter with VPID 0
 translations : List ℕ
@@ -267,7 +303,8 @@ answered =
     ∷ refuses (guest 65536) [] [] 1
     ∷ refuses (at program 52 0 0 (Guest (record { vpid = 0; ept = On (2 ^ 40) }))) [] [] 1
     -- 3: an unknown kind, a cut record, and each field past its bound; the bound itself is valid
-    ∷ refuses root (7 ∷ []) (25 ∷ []) 3
+    ∷ refuses root (11 ∷ []) (25 ∷ []) 3
+    ∷ refuses root (22 ∷ []) (25 ∷ []) 3
     ∷ refuses root (A ++ (1 ∷ [])) (25 ∷ []) 3
     ∷ refuses root (linear 5 4096 0 0 0) (25 ∷ []) 3
     ∷ accepts root (linear 5 4095 0 0 0) (invvpid 1 5 0) 1 []
@@ -602,24 +639,131 @@ by-rule =
     ∷ tells-rule root (vm-entry 0 0 1 0x123456709E 4096 0) 4 0
     ∷ []
 
+-- Both linear widths (document 02, Ask 12): what each refuses, and kinds 7 to 10 at width 57.
+by-width : List Card
+by-width =
+    -- 1: a linear width other than 48 and 57
+    refuses (at-width 0 program 52 0 0 Root) [] [] 1
+    ∷ refuses (at-width 47 program 52 0 0 Root) [] [] 1
+    ∷ refuses (at-width 49 program 52 0 0 Root) [] [] 1
+    ∷ refuses (at-width 56 program 52 0 0 Root) [] [] 1
+    ∷ refuses (at-width 58 program 52 0 0 Root) [] [] 1
+    -- 3 and 4: each kind of the other width, as a record and as an event; kinds 2 and 5 are of both
+    ∷ refuses root (linear-57 5 1 0 0 0) (25 ∷ []) 3
+    ∷ refuses root (A ++ combined-57 5 1 0 0 0) (25 ∷ []) 3
+    ∷ refuses root (linear-structure-57 5 1 1 0) (25 ∷ []) 3
+    ∷ refuses root (combined-structure-57 5 1 1 0 ++ A) (25 ∷ []) 3
+    ∷ refuses root-57 A (25 ∷ []) 3
+    ∷ refuses root-57 (G ++ combined 5 1 0 0 0) (25 ∷ []) 3
+    ∷ refuses root-57 (linear-structure 5 1 1 0) (25 ∷ []) 3
+    ∷ refuses root-57 (combined-structure 5 1 1 0) (25 ∷ []) 3
+    ∷ refuses (guest 5) [] (linear-57 5 1 0 0 0) 4
+    ∷ refuses (ept-guest 5) [] (combined-57 5 1 0 0 0) 4
+    ∷ refuses (guest 5) [] (linear-structure-57 5 1 1 0) 4
+    ∷ refuses (ept-guest 5) [] (combined-structure-57 5 1 1 0) 4
+    ∷ refuses (guest-57 5) [] A 4
+    ∷ refuses (ept-guest-57 5) [] (combined 5 1 0 0 0) 4
+    ∷ refuses (guest-57 5) [] (linear-structure 5 1 1 0) 4
+    ∷ refuses (ept-guest-57 5) [] (combined-structure 5 1 1 0) 4
+    ∷ accepts (ept-guest-57 5) G (guest-physical-structure 1 0) 0 (G ++ guest-physical-structure 1 0)
+    -- creations of kinds 7 to 10, as of their siblings
+    ∷ accepts (guest-57 5) [] (linear-57 5 1 0 0 (2 ^ 45 - 1)) 0 (linear-57 5 1 0 0 (2 ^ 45 - 1))
+    ∷ accepts (ept-guest-57 5) G (combined-57 5 1 1 2 0) 0 (G ++ combined-57 5 1 1 2 0)
+    ∷ accepts (guest-57 5) [] (linear-structure-57 5 1 4 (2 ^ 36)) 0 (linear-structure-57 5 1 4 (2 ^ 36))
+    ∷ accepts (ept-guest-57 5) [] (combined-structure-57 5 1 1 0) 0 (combined-structure-57 5 1 1 0)
+    ∷ refuses (ept-guest-57 5) [] (linear-57 5 1 0 0 0) 11
+    ∷ refuses (guest-57 5) [] (combined-57 5 1 0 0 0) 11
+    ∷ refuses (guest-57 6) [] (linear-structure-57 5 1 1 0) 11
+    ∷ refuses (ept-guest-57 5) [] (combined-structure-57 5 2 1 0) 11
+    -- pages and spans at their bounds and past them; kinds 2 and 5 keep theirs
+    ∷ refuses root-57 (linear-57 5 1 0 0 (2 ^ 45)) (25 ∷ []) 3
+    ∷ refuses root-57 (combined-57 5 1 0 3 0) (25 ∷ []) 3
+    ∷ refuses root-57 (linear-57 5 1 2 0 0) (25 ∷ []) 3
+    ∷ refuses root-57 (combined-57 5 4096 0 0 0) (25 ∷ []) 3
+    ∷ refuses root-57 (linear-structure-57 5 1 0 0) (25 ∷ []) 3
+    ∷ refuses root-57 (linear-structure-57 5 1 5 0) (25 ∷ []) 3
+    ∷ refuses root-57 (combined-structure-57 5 1 4 (2 ^ 35)) (25 ∷ []) 3
+    ∷ accepts root-57 (combined-structure-57 5 1 4 (2 ^ 45 - 2 ^ 36)) (invvpid 1 5 0) 1 []
+    ∷ accepts root-57 (combined-57 5 1 0 0 (2 ^ 45 - 1)) (invvpid 1 5 0) 1 []
+    ∷ refuses root-57 (guest-physical-structure 4 0) (25 ∷ []) 3
+    ∷ refuses root-57 (guest-physical 0 (2 ^ 36)) (25 ∷ []) 3
+    ∷ refuses root-57 (linear-57 5 1 0 1 0x12201) (25 ∷ []) 3
+    -- as events too, at both widths
+    ∷ refuses (guest 5) [] (linear 5 1 0 3 0) 4
+    ∷ refuses (guest-57 5) [] (linear-57 5 1 0 0 (2 ^ 45)) 4
+    ∷ refuses (guest-57 5) [] (linear-structure-57 5 1 5 0) 4
+    -- canonical: bits 63:56; 2^47 is canonical at 57 and not at 48
+    ∷ accepts root-57 (linear-57 5 1 0 0 0) (invvpid 0 5 0x00FFFFFFFFFFF000) 0 (linear-57 5 1 0 0 0)
+    ∷ accepts root-57 (linear-57 5 1 0 0 (2 ^ 44)) (invvpid 0 5 0xFF00000000000000) 1 []
+    ∷ accepts root-57 (linear-57 5 1 0 0 (2 ^ 35)) (invvpid 0 5 0x0000800000000000) 1 []
+    ∷ refuses root-57 [] (invvpid 0 5 0x0100000000000000) 8
+    ∷ refuses root-57 [] (invvpid 0 5 0xFEFFFFFFFFFFF000) 8
+    ∷ accepts root-57 [] (invvpid 0 5 0xFFFF800000000000) 0 []
+    -- the last page of the upper half; a span of 4 covers 2^36 pages
+    ∷ accepts root-57 (combined-57 5 1 0 0 (2 ^ 45 - 1)) (invvpid 0 5 0xFFFFFFFFFFFFFFFF) 1 []
+    ∷ accepts root-57 (linear-structure-57 5 1 4 (2 ^ 45 - 2 ^ 36)) (invvpid 0 5 0xFFFFFFFFFFFFFFFF) 1 []
+    ∷ accepts root-57 (linear-structure-57 5 1 4 (2 ^ 36)) (invvpid 0 5 0x0001FFFFFFFFFFFF) 1 []
+    ∷ accepts root-57 (linear-structure-57 5 1 4 (2 ^ 36)) (invvpid 0 5 0x0002000000000000) 0 (linear-structure-57 5 1 4 (2 ^ 36))
+    -- each scope takes kinds 7 to 10 as their siblings
+    ∷ accepts root-57 (linear-57 5 1 1 0 0 ++ combined-structure-57 5 1 1 0) (invvpid 3 5 0) 1 (linear-57 5 1 1 0 0)
+    ∷ accepts root-57 (combined-57 5 1 1 0 0 ++ linear-structure-57 5 1 1 0) (invvpid 2 0 0) 2 []
+    ∷ accepts root-57 (linear-57 5 1 0 0 0 ++ G ++ combined-57 5 1 0 0 0) (invept 1 0x123456701E 0) 2 (linear-57 5 1 0 0 0)
+    ∷ accepts root-57 (linear-structure-57 5 1 1 0 ++ combined-structure-57 5 1 1 0) (invept 2 0 0) 1 (linear-structure-57 5 1 1 0)
+    ∷ accepts (guest-57 5) (linear-57 5 2 1 0 (2 ^ 36) ++ linear-57 5 2 0 0 (2 ^ 36)) (invlpg (2 ^ 48)) 1 (linear-57 5 2 0 0 (2 ^ 36))
+    ∷ accepts (guest-57 5) (linear-structure-57 5 1 1 0 ++ combined-structure-57 5 1 1 0) (invlpg (2 ^ 48)) 2 []
+    ∷ accepts (guest-57 5) (linear-57 5 1 0 0 0) (invlpg (2 ^ 48)) 0 (linear-57 5 1 0 0 0)
+    ∷ accepts (guest-57 5) (linear-structure-57 5 1 1 0) (invlpg (2 ^ 56)) 0 (linear-structure-57 5 1 1 0)
+    ∷ accepts (ept-guest-57 5) (combined-57 5 1 0 0 (2 ^ 44) ++ G) (ept-violation 0x10000 1 0xFF00000000000000) 2 []
+    ∷ accepts (ept-guest-57 5) (combined-57 5 1 0 0 0x10 ++ combined-structure-57 5 1 4 0) (ept-violation 0 1 0) 1 (combined-57 5 1 0 0 0x10)
+    ∷ refuses (ept-guest-57 5) [] (ept-violation 0 1 (2 ^ 56)) 4
+    ∷ accepts (ept-guest-57 5) [] (ept-violation 0 1 (2 ^ 47)) 0 []
+    ∷ refuses (ept-guest-57 5) [] (ept-violation (2 ^ 48) 0 0) 4
+    ∷ accepts (guest-57 5) (linear-57 5 1 0 0 (2 ^ 35)) (invpcid 0 1 (2 ^ 47)) 1 []
+    ∷ accepts (guest-57 5) (linear-57 5 1 0 0 (2 ^ 44)) (invpcid 0 1 0xFF00000000000000) 1 []
+    ∷ refuses (guest-57 5) [] (invpcid 0 1 (2 ^ 56)) 7
+    ∷ accepts (guest-57 5) (combined-57 5 1 1 0 0 ++ combined-structure-57 5 2 1 0) (invpcid 3 0 0) 1 (combined-57 5 1 1 0 0)
+    -- no event changes the linear width, and a reset keeps it
+    ∷ moves (guest-57 5) (linear-57 5 2 0 0 0) (mov-to-cr3 2) 1 [] (at-width 57 program 52 2 0 (Guest (record { vpid = 5; ept = Off })))
+    ∷ moves root-57 (linear-57 0 1 0 0 0 ++ linear-57 5 1 0 0 0) (vm-entry 0 0 0 0 1 0) 1 (linear-57 5 1 0 0 0) (guest-57 0)
+    ∷ moves (guest-57 0) (combined-structure-57 0 1 1 0) (vm-exit 0) 1 [] root-57
+    ∷ moves (at-width 57 program 52 3 0 Outside) [] (22 ∷ []) 0 [] (at-width 57 program 52 3 0 Root)
+    ∷ moves root-57 [] (23 ∷ []) 0 [] (at-width 57 program 52 0 0 Outside)
+    ∷ moves root-57 [] (new-pcid-cpl 9 2) 0 [] (at-width 57 program 52 9 2 Root)
+    ∷ moves root-57 (linear-57 5 1 0 0 0 ++ G) (25 ∷ []) 2 [] (at-width 57 program 52 0 0 Outside)
+    ∷ []
+
 -- 2 and 12 at the limit and one past it: of a table of so many bytes, the answer to a reset, and whether there
 -- is room for A behind it in a new buffer of so many
 limited : Bool
 limited =
-    eqb (answer root (replicate 45056 0) (25 ∷ []) 50000) 3
-    && eqb (answer root (replicate 45057 0) (25 ∷ []) 50000) 2
-    && not (no-room 50000 (replicate 45039 0) A)
-    && no-room 50000 (replicate 45040 0) A
-    && not (no-room 45056 (replicate 45039 0) A)
-    && no-room 45055 (replicate 45039 0) A
-    && not (no-room 45056 (replicate 45056 0) (25 ∷ []))
-    && no-room 45055 (replicate 45056 0) (25 ∷ [])
+    eqb (answer root (replicate 47104 0) (25 ∷ []) 50000) 3
+    && eqb (answer root (replicate 47105 0) (25 ∷ []) 50000) 2
+    && not (no-room 50000 (replicate 47087 0) A)
+    && no-room 50000 (replicate 47088 0) A
+    && not (no-room 47104 (replicate 47087 0) A)
+    && no-room 47103 (replicate 47087 0) A
+    && not (no-room 47104 (replicate 47104 0) (25 ∷ []))
+    && no-room 47103 (replicate 47104 0) (25 ∷ [])
+
+-- the limit is one at both widths; any linear width but 57 is read as 48; and a reset keeps the number as it is
+widths : Bool
+widths =
+    eqb (answer root-57 (replicate 47104 0) (25 ∷ []) 50000) 3
+    && eqb (answer root-57 (replicate 47105 0) (25 ∷ []) 50000) 2
+    && not (canonical 56 (2 ^ 47))
+    && not (canonical 58 (2 ^ 47))
+    && canonical 0 0xFFFF800000000000
+    && other-width 56 7
+    && not (other-width 56 1)
+    && valid-event 58 A
+    && not (valid-event 58 (linear-57 5 1 0 0 0))
+    && same (numbers (after-reset (at-width 56 program 53 9 3 Root))) (numbers (at-width 56 program 53 0 0 Outside))
 
 -- the lengths of the kinds, with the kind byte
 lengths : Bool
 lengths =
-    same (map length-of (1 ∷ 2 ∷ 3 ∷ 4 ∷ 5 ∷ 6 ∷ 16 ∷ 17 ∷ 18 ∷ 19 ∷ 20 ∷ 21 ∷ 22 ∷ 23 ∷ 24 ∷ 25 ∷ 26 ∷ 27 ∷ []))
-    (17 ∷ 17 ∷ 22 ∷ 16 ∷ 17 ∷ 21 ∷ 25 ∷ 25 ∷ 9 ∷ 18 ∷ 16 ∷ 3 ∷ 1 ∷ 1 ∷ 4 ∷ 1 ∷ 25 ∷ 3 ∷ [])
+    same (map length-of (1 ∷ 2 ∷ 3 ∷ 4 ∷ 5 ∷ 6 ∷ 7 ∷ 8 ∷ 9 ∷ 10 ∷ 16 ∷ 17 ∷ 18 ∷ 19 ∷ 20 ∷ 21 ∷ 22 ∷ 23 ∷ 24 ∷ 25 ∷ 26 ∷ 27 ∷ []))
+    (17 ∷ 17 ∷ 22 ∷ 16 ∷ 17 ∷ 21 ∷ 18 ∷ 23 ∷ 17 ∷ 22 ∷ 25 ∷ 25 ∷ 9 ∷ 18 ∷ 16 ∷ 3 ∷ 1 ∷ 1 ∷ 4 ∷ 1 ∷ 25 ∷ 3 ∷ [])
 
 -- lookups: both kinds of record count, in the table's order
 looks : List Look
@@ -657,8 +801,20 @@ looks =
     ∷ misses (guest 5) (Linear 0x12400000) (linear 5 1 0 1 0x12200) 0 0
     ∷ finds (at program 52 1 3 (Guest (record { vpid = 5; ept = Off }))) (Linear 0x12345678) (linear 5 1 0 1 0x12200) 0 0 (linear 5 1 0 1 0x12200)
     ∷ misses (guest 5) (Linear 0x12345678) (linear-structure 5 2 1 0x12200) 0 0
+    -- linear width 57: canonical and the page, with both kinds of record and a span of 4; guest-physical pages as at 48
+    ∷ finds (guest-57 5) (Linear 0xFF00000000000000) (linear-57 5 1 0 0 (2 ^ 44)) 0 0 (linear-57 5 1 0 0 (2 ^ 44))
+    ∷ finds (guest-57 5) (Linear (2 ^ 47)) (G ++ linear-57 5 2 1 0 (2 ^ 35)) 0 17 (linear-57 5 2 1 0 (2 ^ 35))
+    ∷ misses (guest-57 5) (Linear (2 ^ 56)) (linear-57 5 1 0 0 (2 ^ 44)) 0 0
+    ∷ finds (ept-guest-57 5) (Linear 0xFFFFFFFFFFFFFFFF) (combined-structure-57 5 1 4 (2 ^ 45 - 2 ^ 36)) 0 0 (combined-structure-57 5 1 4 (2 ^ 45 - 2 ^ 36))
+    ∷ finds (ept-guest-57 5) (Linear 0) (combined-57 5 1 0 0 0 ++ combined-structure-57 5 1 1 0) 1 23 (combined-structure-57 5 1 1 0)
+    ∷ misses (ept-guest-57 5) (Linear 0) (linear-57 5 1 0 0 0 ++ linear-structure-57 5 1 1 0) 0 0
+    ∷ finds (ept-guest-57 5) (GuestPhysical (2 ^ 48 - 1)) (guest-physical 0 (2 ^ 36 - 1)) 0 0 (guest-physical 0 (2 ^ 36 - 1))
+    ∷ misses (ept-guest-57 5) (GuestPhysical (2 ^ 48)) (guest-physical 0 0) 0 0
+    ∷ misses (guest-57 5) (Linear 0) A 0 3
+    ∷ misses (guest 5) (Linear 0) (linear-57 5 1 0 0 0) 0 3
     -- answers 1 and 3
     ∷ misses (at program 53 1 0 Root) (Linear 0) (linear 0 1 0 0 0) 0 1
+    ∷ misses (at-width 56 program 52 1 0 Root) (Linear 0) (linear 0 1 0 0 0) 0 1
     ∷ misses (at program 52 1 0 Root) (Linear 0) (linear 0 1 0 0 0 ++ (0 ∷ [])) 0 3
     ∷ []
 
@@ -670,6 +826,9 @@ reasons =
     ∷ record { context = root; bytes = []; event = 25 ∷ []; number = 1; answer = 3 }
     ∷ record { context = root; bytes = A ++ A; event = []; number = 1; answer = 3 }
     ∷ record { context = root; bytes = A; event = []; number = 1; answer = 4 }
+    ∷ record { context = root; bytes = linear-57 5 1 0 0 0; event = []; number = 1; answer = 3 }
+    ∷ record { context = root-57; bytes = A; event = []; number = 1; answer = 3 }
+    ∷ record { context = root-57; bytes = G; event = A; number = 1; answer = 4 }
     ∷ record { context = root; bytes = A; event = invvpid 4 5 0; number = 1; answer = 8 }
     ∷ record { context = root; bytes = A; event = vm-exit 0; number = 1; answer = 9 }
     -- 2, no scope
@@ -727,6 +886,15 @@ reasons =
     ∷ says (guest 5) (linear 5 2 1 0 0) (mov-to-cr3 2) 9
     ∷ says (guest 5) (linear 5 2 1 0 0) (invpcid 2 1 0) 10
     ∷ says (guest 5) (linear-structure 5 2 1 0) (mov-to-cr3 2) 10
+    -- kinds 7 to 10 are asked as their siblings (Ask 12)
+    ∷ says (guest-57 5) G (invlpg (2 ^ 56)) 3
+    ∷ says root-57 (linear-57 5 1 0 0 0) (invept 2 0 0) 4
+    ∷ says root-57 (combined-57 6 1 1 0 0) (invvpid 3 5 0) 5
+    ∷ says (guest-57 5) (linear-structure-57 5 2 1 0) (invlpg (2 ^ 48)) 6
+    ∷ says root-57 (combined-structure-57 5 1 1 0) (invept 1 0x123456801E 0) 7
+    ∷ says root-57 (linear-57 5 1 1 0 0) (invvpid 0 5 (2 ^ 48)) 8
+    ∷ says root-57 (combined-57 5 1 1 0 0) (invvpid 3 5 0) 9
+    ∷ says (guest-57 5) (linear-structure-57 5 1 1 0) (invlpg (2 ^ 48)) 10
     -- 10, in scope; INVLPG asks structure caches for no page (Ask 2)
     ∷ says root (linear 5 1 1 0 0) (invvpid 1 5 0) 10
     ∷ says (guest 5) (linear-structure 5 1 1 0x12400) (invlpg 0) 10
@@ -734,6 +902,6 @@ reasons =
     ∷ []
 
 -- Every row holds.
-cards-hold : (all holds (starred ++ answered ++ dropping ++ bounded ++ by-pcid) && limited && lengths && all shows looks && all tells reasons && all rules by-rule) ≡ true
-unfolding tells-rule by-rule rules eptp-rule own-rule rule-with invpcid mov-to-cr3 by-pcid bad-invpcid invpcid-tests mov-to-cr3-tests translations structures structures-of-0 bounded limited bytes same ept-numbers place-numbers numbers buffer holds shows all without-21 program at root outside guest ept-guest A G linear guest-physical combined linear-structure guest-physical-structure combined-structure invvpid invept invlpg ept-violation vm-entry vm-exit new-pcid-cpl accepts moves refuses finds misses starred answered lengths looks in-range after-reset kind-of mapping-kind event-kind body-of length-of field mapping fields-in-range starts-record record-length covers joined cut records-within records whole only count canonical operands violation entry new-pcid event event-in-range valid-event scope entered next-context first good-eptp invvpid-supported bad-invvpid invept-supported bad-invept invalid-opcode exits general-protection bad-entry creatable created no-room table-grounds event-grounds grounds answer new-table dropped-count stepped written translates-linear usable usable-records lookup-answer lookup start-of lookup-start accepted-step refused-step put Rattle.model.specs.Mappings.linear Rattle.model.specs.Mappings.guest-physical Rattle.model.specs.Mappings.combined structure-cache global-marked tells says dropping reasons invvpid-tests invept-tests invlpg-tests guest-physical-violation-tests combined-violation-tests violation-tests transition-tests has-scope first-failed reason one-record explained-answer explanation own-ground
+cards-hold : (all holds (starred ++ answered ++ dropping ++ bounded ++ by-pcid ++ by-width) && limited && widths && lengths && all shows looks && all tells reasons && all rules by-rule) ≡ true
+unfolding tells-rule by-rule rules widths by-width at-width root-57 guest-57 ept-guest-57 linear-57 combined-57 linear-structure-57 combined-structure-57 valid-table of-width other-width wide eptp-rule own-rule rule-with invpcid mov-to-cr3 by-pcid bad-invpcid invpcid-tests mov-to-cr3-tests translations structures structures-of-0 bounded limited bytes same ept-numbers place-numbers numbers buffer holds shows all without-21 program at root outside guest ept-guest A G linear guest-physical combined linear-structure guest-physical-structure combined-structure invvpid invept invlpg ept-violation vm-entry vm-exit new-pcid-cpl accepts moves refuses finds misses starred answered lengths looks in-range after-reset kind-of mapping-kind event-kind body-of length-of field mapping fields-in-range starts-record record-length covers joined cut records-within records whole only count canonical operands violation entry new-pcid event event-in-range valid-event scope entered next-context first good-eptp invvpid-supported bad-invvpid invept-supported bad-invept invalid-opcode exits general-protection bad-entry creatable created no-room table-grounds event-grounds grounds answer new-table dropped-count stepped written translates-linear usable usable-records lookup-answer lookup start-of lookup-start accepted-step refused-step put Rattle.model.specs.Mappings.linear Rattle.model.specs.Mappings.guest-physical Rattle.model.specs.Mappings.combined structure-cache global-marked tells says dropping reasons invvpid-tests invept-tests invlpg-tests guest-physical-violation-tests combined-violation-tests violation-tests transition-tests has-scope first-failed reason one-record explained-answer explanation own-ground
 cards-hold = refl

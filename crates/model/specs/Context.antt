@@ -1,7 +1,7 @@
 -- Document 01, "Context".
 use Prim.Native.Nat.{ℕ, _^_}
-use mathlib.Core.Bool.{Bool, true, false, _&&_}
-use lib.Dec.{leb, ltb}
+use mathlib.Core.Bool.{Bool, true, false, _&&_, _||_}
+use lib.Dec.{eqb, leb, ltb}
 use Rattle.model.specs.declared.Context.{Context}
 use Rattle.model.specs.declared.Place.{Place}
 use Rattle.model.specs.declared.Place.the-variants.{Outside, Root, Guest}
@@ -27,11 +27,16 @@ place-in-range Outside = true
 place-in-range Root = true
 place-in-range (Guest guest) = leb (guest .vpid) 65535 && ept-in-range (guest .ept)
 
+-- "a linear width, 48 or 57" (document 02, Ask 12)
+abbrev pub linear-width-in-range : ℕ → Bool
+linear-width-in-range width = eqb width 48 || eqb width 57
+
 -- every field is in its range; the capability is any number
 unfoldable pub in-range : Context → Bool
 in-range c =
     leb 36 (c .width)
     && leb (c .width) 52
+    && linear-width-in-range (c .«linear_width»)
     && pcid-in-range (c .pcid)
     && cpl-in-range (c .cpl)
     && place-in-range (c .place)
@@ -64,6 +69,18 @@ current-ept Outside = Off
 current-ept Root = Off
 current-ept (Guest guest) = guest .ept
 
--- "After a reset: outside, PCID 0, CPL 0; capability and N stay."
+-- a context with another place, PCID and CPL
+abbrev pub moved : Context → ℕ → ℕ → Place → Context
+moved c pcid cpl place =
+    record {
+      capability = c .capability;
+      width = c .width;
+      «linear_width» = c .«linear_width»;
+      pcid = pcid;
+      cpl = cpl;
+      place = place;
+    }
+
+-- "After a reset: outside, PCID 0, CPL 0; capability and N stay."; "A reset keeps the [linear] width." (Ask 12)
 unfoldable pub after-reset : Context → Context
-after-reset c = record { capability = c .capability; width = c .width; pcid = 0; cpl = 0; place = Outside }
+after-reset c = moved c 0 0 Outside

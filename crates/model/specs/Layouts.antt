@@ -1,4 +1,4 @@
--- Document 01, the two tables of kinds: "Mapping records" and "Events". Every layout is a row of
+-- Document 01, the two tables of kinds: "Mapping records" and "Events", with document 02's kinds (Asks 5 and 12). Every layout is a row of
 -- these tables, and one reader, `field`, serves them all.
 use Prim.Native.Nat.{ℕ, _+_}
 use mathlib.Core.Bool.{Bool, true, false, cond}
@@ -49,28 +49,34 @@ sort-number guest-physical = 1
 sort-number combined = 2
 
 -- a row of the table of mappings: the kind, its sort, whether it is a structure cache or a
--- translation, and its body
+-- translation, how many bits its addresses have, and its body
 pub record Row : Type 0 where
   pub kind : ℕ
   pub sort : Sort
   pub cache : Bool
+  pub address-bits : ℕ
   pub body : Body
 
-abbrev translation : ℕ → Sort → Body → Row
-translation kind sort body = record { kind = kind; sort = sort; cache = false; body = body }
+abbrev translation : ℕ → Sort → ℕ → Body → Row
+translation kind sort bits body = record { kind = kind; sort = sort; cache = false; address-bits = bits; body = body }
 
-abbrev structure : ℕ → Sort → Body → Row
-structure kind sort body = record { kind = kind; sort = sort; cache = true; body = body }
+abbrev structure : ℕ → Sort → ℕ → Body → Row
+structure kind sort bits body = record { kind = kind; sort = sort; cache = true; address-bits = bits; body = body }
 
--- "kind | mapping | body, in order, with bytes"
+-- "kind | mapping | body, in order, with bytes"; document 02, Ask 12: "Kinds 7, 8, 9 and 10 are kinds 1, 3, 4 and 6 with
+-- a 6-byte page"
 abbrev pub mapping-kinds : List Row
 mapping-kinds =
-    translation 1 linear ((vpid, 2) ∷ (pcid, 2) ∷ (global, 1) ∷ (span, 1) ∷ (page, 5) ∷ (frame, 5) ∷ [])
-    ∷ translation 2 guest-physical ((ep4ta, 5) ∷ (span, 1) ∷ (page, 5) ∷ (frame, 5) ∷ [])
-    ∷ translation 3 combined ((vpid, 2) ∷ (pcid, 2) ∷ (global, 1) ∷ (span, 1) ∷ (page, 5) ∷ (frame, 5) ∷ (ep4ta, 5) ∷ [])
-    ∷ structure 4 linear ((vpid, 2) ∷ (pcid, 2) ∷ (span, 1) ∷ (page, 5) ∷ (frame, 5) ∷ [])
-    ∷ structure 5 guest-physical ((ep4ta, 5) ∷ (span, 1) ∷ (page, 5) ∷ (frame, 5) ∷ [])
-    ∷ structure 6 combined ((vpid, 2) ∷ (pcid, 2) ∷ (span, 1) ∷ (page, 5) ∷ (frame, 5) ∷ (ep4ta, 5) ∷ [])
+    translation 1 linear 48 ((vpid, 2) ∷ (pcid, 2) ∷ (global, 1) ∷ (span, 1) ∷ (page, 5) ∷ (frame, 5) ∷ [])
+    ∷ translation 2 guest-physical 48 ((ep4ta, 5) ∷ (span, 1) ∷ (page, 5) ∷ (frame, 5) ∷ [])
+    ∷ translation 3 combined 48 ((vpid, 2) ∷ (pcid, 2) ∷ (global, 1) ∷ (span, 1) ∷ (page, 5) ∷ (frame, 5) ∷ (ep4ta, 5) ∷ [])
+    ∷ structure 4 linear 48 ((vpid, 2) ∷ (pcid, 2) ∷ (span, 1) ∷ (page, 5) ∷ (frame, 5) ∷ [])
+    ∷ structure 5 guest-physical 48 ((ep4ta, 5) ∷ (span, 1) ∷ (page, 5) ∷ (frame, 5) ∷ [])
+    ∷ structure 6 combined 48 ((vpid, 2) ∷ (pcid, 2) ∷ (span, 1) ∷ (page, 5) ∷ (frame, 5) ∷ (ep4ta, 5) ∷ [])
+    ∷ translation 7 linear 57 ((vpid, 2) ∷ (pcid, 2) ∷ (global, 1) ∷ (span, 1) ∷ (page, 6) ∷ (frame, 5) ∷ [])
+    ∷ translation 8 combined 57 ((vpid, 2) ∷ (pcid, 2) ∷ (global, 1) ∷ (span, 1) ∷ (page, 6) ∷ (frame, 5) ∷ (ep4ta, 5) ∷ [])
+    ∷ structure 9 linear 57 ((vpid, 2) ∷ (pcid, 2) ∷ (span, 1) ∷ (page, 6) ∷ (frame, 5) ∷ [])
+    ∷ structure 10 combined 57 ((vpid, 2) ∷ (pcid, 2) ∷ (span, 1) ∷ (page, 6) ∷ (frame, 5) ∷ (ep4ta, 5) ∷ [])
     ∷ []
 
 -- "kind | event | body": the events besides the creations. Kinds 26, INVPCID, and 27, MOV to CR3 without bit 63, are
@@ -128,11 +134,11 @@ width-in (g ∷ gs) f = cond (eqb (field-number f) (field-number (g .0))) (g .1)
 unfoldable pub kind-of : List ℕ → ℕ
 kind-of r = getD r 0 0
 
--- the kind is a mapping's
+-- the kind is a mapping's, at either linear width
 unfoldable pub mapping-kind : ℕ → Bool
 mapping-kind kind = known-in mapping-bodies kind
 
--- the kind is an event's, a creation's among them
+-- the kind is an event's, a creation's among them, at either linear width
 unfoldable pub event-kind : ℕ → Bool
 event-kind kind = known-in (mapping-bodies ++ other-event-kinds) kind
 

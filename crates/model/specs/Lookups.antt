@@ -11,9 +11,9 @@ use Rattle.model.specs.declared.Mapping.{Mapping}
 use Rattle.model.specs.declared.Address.{Address}
 use Rattle.model.specs.declared.Address.the-variants.{Linear, GuestPhysical}
 use Rattle.model.specs.Context.{current-vpid, current-ept}
-use Rattle.model.specs.Mappings.{mapping, linear, guest-physical, combined, covers}
+use Rattle.model.specs.Mappings.{mapping, linear, guest-physical, combined}
 use Rattle.model.specs.Tables.{records, only}
-use Rattle.model.specs.Events.{canonical, page-of, guest-physical-in-range}
+use Rattle.model.specs.Events.{canonical, covers-linear, covers-guest-physical, guest-physical-in-range}
 use Rattle.model.specs.Scopes.{is-current-ep4ta, current-pcid-or-global}
 use Rattle.model.specs.Answers.{first, table-grounds}
 
@@ -28,14 +28,14 @@ translates-linear (On current) m = combined (m .kind) && eqb (m .ep4ta) current
 -- more, and any with EPT not in use, has none.
 unfoldable pub usable : Context → Address → Mapping → Bool
 usable c (Linear address) m =
-    canonical address
-    && covers (m .span) (m .page) (page-of address)
+    canonical (c .«linear_width») address
+    && covers-linear (c .«linear_width») address m
     && eqb (m .vpid) (current-vpid (c .place))
     && current-pcid-or-global c m
     && translates-linear (current-ept (c .place)) m
 usable c (GuestPhysical address) m =
     guest-physical-in-range address
-    && covers (m .span) (m .page) (page-of address)
+    && covers-guest-physical address m
     && guest-physical (m .kind)
     && is-current-ep4ta (current-ept (c .place)) (m .ep4ta)
 

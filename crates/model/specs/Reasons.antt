@@ -14,7 +14,7 @@ use Rattle.model.specs.declared.Explanation.{Explanation}
 use Rattle.model.specs.declared.Explanation.the-variants.{Refused, Accepted}
 use Rattle.model.specs.Context.{in-range}
 use Rattle.model.specs.Layouts.{kind-of, length-of}
-use Rattle.model.specs.Mappings.{mapping, starts-record}
+use Rattle.model.specs.Mappings.{mapping, other-width, starts-record}
 use Rattle.model.specs.Tables.{limit}
 use Rattle.model.specs.Events.{event}
 use Rattle.model.specs.Scopes.{Tests, asked}
@@ -53,14 +53,14 @@ drops NotCovering = false
 drops SparedAsGlobal = false
 drops InScope = true
 
--- exactly one valid record
-unfoldable pub one-record : List ℕ → Bool
-one-record r = starts-record r && eqb (length r) (length-of (kind-of r))
+-- exactly one valid record of the linear width
+unfoldable pub one-record : ℕ → List ℕ → Bool
+one-record width r = starts-record r && eqb (length r) (length-of (kind-of r)) && not (other-width width (kind-of r))
 
--- "The refusal is judged with a table of that record alone and a new buffer of 45,056 bytes; bytes that
+-- "The refusal is judged with a table of that record alone and a new buffer of 45,056 [47,104] bytes; bytes that
 -- are not exactly one valid record are answer 3, never 2."
 unfoldable pub explained-answer : Context → List ℕ → List ℕ → ℕ
-explained-answer c r e = cond (one-record r) (answer c r e limit) (first ((1, not (in-range c)) ∷ (3, true) ∷ []))
+explained-answer c r e = cond (one-record (c .«linear_width») r) (answer c r e limit) (first ((1, not (in-range c)) ∷ (3, true) ∷ []))
 
 -- why the event e drops the record r or leaves it: "step refused (with its number)" goes first; "the explainer adds
 -- the number" of the EPTP's rule (Ask 6)

@@ -1,5 +1,6 @@
 -- Document 01, "Required scopes": which mappings an accepted event invalidates (000, 29.4.3.1), judged
--- in the context just before it ("Whole runs"), and how the event changes the context.
+-- in the context just before it ("Whole runs"), and how the event changes the context. Kinds 7 to 10 go with 1, 3, 4 and 6
+-- by their sort (document 02, Ask 12).
 use Prim.Native.Nat.{ℕ}
 use mathlib.Core.Bool.{Bool, true, false, cond, not, _&&_, _||_}
 use lib.Dec.{eqb, leb}
@@ -15,11 +16,11 @@ use Rattle.model.specs.declared.Operands.{Operands}
 use Rattle.model.specs.declared.Violation.{Violation}
 use Rattle.model.specs.declared.Entry
 use Rattle.model.specs.Bits.{bits}
-use Rattle.model.specs.Context.{current-vpid, current-ept, after-reset}
-use Rattle.model.specs.Mappings.{linear, guest-physical, combined, structure-cache, global-translation, covers}
-use Rattle.model.specs.Events.{canonical, page-of}
+use Rattle.model.specs.Context.{current-vpid, current-ept, moved, after-reset}
+use Rattle.model.specs.Mappings.{linear, guest-physical, combined, structure-cache, global-translation}
+use Rattle.model.specs.Events.{canonical, covers-linear, covers-guest-physical}
 
--- the mapping carries a VPID and a PCID: a linear or combined mapping, kinds 1, 3, 4 and 6
+-- the mapping carries a VPID and a PCID: a linear or combined mapping, kinds 1, 3, 4 and 6, and 7 to 10
 abbrev pub vpid-tagged : Mapping → Bool
 vpid-tagged m = linear (m .kind) || combined (m .kind)
 
@@ -66,14 +67,14 @@ no-tests = record { kind = true; vpid = true; pcid = true; ep4ta = true; page = 
 -- address, global or not. Type 1: the named VPID. Type 2: every VPID but 0. Type 3: the named VPID,
 -- except kinds 1 and 3 with global 1". A type above 3 is refused with 8, so that its tests are never
 -- asked.
-unfoldable pub invvpid-tests : Operands → Mapping → Tests
-invvpid-tests o m =
+unfoldable pub invvpid-tests : Context → Operands → Mapping → Tests
+invvpid-tests c o m =
     record {
       kind = vpid-tagged m;
       vpid = cond (eqb (o .«type_number») 2) (not (eqb (m .vpid) 0)) (eqb (m .vpid) (vpid-named o));
       pcid = true;
       ep4ta = true;
-      page = cond (eqb (o .«type_number») 0) (covers (m .span) (m .page) (page-of (o .high))) true;
+      page = cond (eqb (o .«type_number») 0) (covers-linear (c .«linear_width») (o .high) m) true;
       global = cond (leb (o .«type_number») 2) true (not (global-translation m));
     }
 
@@ -100,7 +101,7 @@ invlpg-tests c address m =
       vpid = eqb (m .vpid) (current-vpid (c .place));
       pcid = current-pcid-or-global c m;
       ep4ta = true;
-      page = structure-cache (m .kind) || covers (m .span) (m .page) (page-of address);
+      page = structure-cache (m .kind) || covers-linear (c .«linear_width») address m;
       global = true;
     }
 
@@ -112,7 +113,7 @@ guest-physical-violation-tests c v m =
       vpid = true;
       pcid = true;
       ep4ta = is-current-ep4ta (current-ept (c .place)) (m .ep4ta);
-      page = covers (m .span) (m .page) (page-of (v .physical));
+      page = covers-guest-physical (v .physical) m;
       global = true;
     }
 
@@ -125,7 +126,7 @@ combined-violation-tests c v m =
       vpid = eqb (m .vpid) (current-vpid (c .place));
       pcid = eqb (m .pcid) (c .pcid);
       ep4ta = is-current-ep4ta (current-ept (c .place)) (m .ep4ta);
-      page = covers (m .span) (m .page) (page-of (v .linear));
+      page = covers-linear (c .«linear_width») (v .linear) m;
       global = true;
     }
 
@@ -149,7 +150,7 @@ invpcid-tests c o m =
       vpid = eqb (m .vpid) (current-vpid (c .place));
       pcid = cond (leb (o .«type_number») 1) (eqb (m .pcid) (pcid-named o)) true;
       ep4ta = true;
-      page = cond (eqb (o .«type_number») 0) (covers (m .span) (m .page) (page-of (o .high))) true;
+      page = cond (eqb (o .«type_number») 0) (covers-linear (c .«linear_width») (o .high) m) true;
       global = cond (eqb (o .«type_number») 2) true (not (global-translation m));
     }
 
@@ -188,9 +189,9 @@ nothing = asked-if false (λ m. no-tests)
 -- address has nothing in scope".
 abbrev pub asked : Context → Event → Asked
 asked c (Creation created) = nothing
-asked c (Invvpid o) = asked-if true (invvpid-tests o)
+asked c (Invvpid o) = asked-if true (invvpid-tests c o)
 asked c (Invept o) = asked-if true (invept-tests o)
-asked c (Invlpg address) = record { scoped = true; addressed = canonical address; tests = invlpg-tests c address }
+asked c (Invlpg address) = record { scoped = true; addressed = canonical (c .«linear_width») address; tests = invlpg-tests c address }
 asked c (EptViolation v) = asked-if true (violation-tests c v)
 asked c (Entry n) = asked-if (not (eqb (n .vpids) 1)) transition-tests
 asked c (Exit pcid) = asked-if (eqb (current-vpid (c .place)) 0) transition-tests
@@ -217,10 +218,6 @@ entered n =
       vpid = cond (eqb (n .vpids) 1) (n .vpid) 0;
       ept = cond (eqb (n .ept) 1) (On (ep4ta-of (n .eptp))) Off;
     })
-
--- a context with another place, PCID and CPL
-abbrev pub moved : Context → ℕ → ℕ → Place → Context
-moved c pcid cpl place = record { capability = c .capability; width = c .width; pcid = pcid; cpl = cpl; place = place }
 
 -- "Entry sets place, PCID and CPL. Exit gives root, the host PCID, CPL 0. VMXON gives root, VMXOFF
 -- outside. Kind 24 sets PCID and CPL; reset gives the context named above. The other events leave the

@@ -1,14 +1,16 @@
--- Document 01, "A table is records end to end, at most 45,056 bytes, possibly none."
+-- Document 01, "A table is records end to end, at most 45,056 bytes, possibly none." Document 02, Ask 12,
+-- makes that 47,104.
 use Prim.Native.Nat.{ℕ, zero, suc}
-use mathlib.Core.Bool.{Bool, cond}
+use mathlib.Core.Bool.{Bool, true, cond, not, _&&_}
 use mathlib.Core.List.{List, [], _∷_, _++_}
 use lib.Dec.{eqb}
 use lib.ListN.{length, take, drop}
-use Rattle.model.specs.Mappings.{record-length}
+use Rattle.model.specs.Layouts.{kind-of}
+use Rattle.model.specs.Mappings.{other-width, record-length}
 
 -- the most bytes that a table has
 abbrev pub limit : ℕ
-limit = 45056
+limit = 47104
 
 -- records end to end, as one list of bytes
 unfoldable pub joined : List (List ℕ) → List ℕ
@@ -29,9 +31,14 @@ records-within (suc n) t = cut (record-length t) t (records-within n (drop (reco
 unfoldable pub records : List ℕ → List (List ℕ)
 records t = records-within (length t) t
 
--- t is whole, valid records: those at its front are all of it
+-- t is whole, valid records, of either linear width: those at its front are all of it
 unfoldable pub whole : List ℕ → Bool
 whole t = eqb (length (joined (records t))) (length t)
+
+-- none of the records is one of the other linear width (Ask 12)
+unfoldable pub of-width : ℕ → List (List ℕ) → Bool
+of-width width [] = true
+of-width width (r ∷ rs) = not (other-width width (kind-of r)) && of-width width rs
 
 -- the records of which a test holds, in order; and how many they are
 unfoldable pub only : (List ℕ → Bool) → List (List ℕ) → List (List ℕ)

@@ -2,12 +2,15 @@
 // stand in specs/, in the order of the document.
 
 // The longest table, in bytes.
-pub const TABLE_LIMIT: usize = 45056;
+pub const TABLE_LIMIT: usize = 47104;
 
-// Guest-physical addresses are below 2^48, linear and guest-physical pages below 2^36.
+// Guest-physical addresses are below 2^48. The pages of 48-bit addresses are below 2^36, those of 57-bit ones below
+// 2^45.
 pub const GUEST_PHYSICAL_LIMIT: u64 = 281474976710656;
 
 pub const PAGE_LIMIT: u64 = 68719476736;
+
+pub const WIDE_PAGE_LIMIT: u64 = 35184372088832;
 
 // EP4TAs are below 2^40, PCIDs at most 4,095.
 pub const EP4TA_LIMIT: u64 = 1099511627776;
@@ -20,6 +23,8 @@ pub struct Context {
     pub capability: u64,
     // the physical width N
     pub width: u64,
+    // how many bits a linear address has: 48, or 57 with 5-level paging (document 02, Ask 12)
+    pub linear_width: u64,
     pub pcid: u64,
     pub cpl: u64,
     pub place: Place,
@@ -54,13 +59,6 @@ pub struct Mapping {
     // the frame of a translation, the structure of a structure cache
     pub frame: u64,
     pub ep4ta: u64,
-}
-
-// What the record reader answers: the mapping that starts at the front with the length of its
-// record, or that no valid record starts there.
-pub enum Reading {
-    Record(Mapping, usize),
-    Nothing,
 }
 
 // Document 01, "Events", and document 02, Ask 5, with the fields of each.

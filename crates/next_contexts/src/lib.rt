@@ -6,8 +6,8 @@ use model::Event;
 use model::GuestPlace;
 use model::Place;
 ghost use mathlib.Core.Path.{_≡_};
-ghost use Rattle.model.specs.Context.{after-reset};
-ghost use Rattle.model.specs.Scopes.{entered, next-context, moved};
+ghost use Rattle.model.specs.Context.{moved, after-reset};
+ghost use Rattle.model.specs.Scopes.{entered, next-context};
 
 // The guest place that a VM entry gives. A disabled VPID or EPT field is not looked at.
 fn place_entered(n: Entry) -> Place
@@ -22,19 +22,6 @@ fn place_entered(n: Entry) -> Place
     Place::Guest(GuestPlace { vpid, ept })
 }
 
-// The context after a reset: outside, PCID 0, CPL 0; capability and width stay.
-pub fn reset(c: Context) -> Context
-    ensures { λ r. ⌜ r ≡ after-reset c ⌝ }
-{
-    Context {
-        capability: c.capability,
-        width: c.width,
-        pcid: 0,
-        cpl: 0,
-        place: Place::Outside,
-    }
-}
-
 // The context at another PCID, CPL and place.
 fn moved_to(c: Context, pcid: u64, cpl: u64, place: Place) -> Context
     ensures { λ r. ⌜ r ≡ moved c pcid cpl place ⌝ }
@@ -42,10 +29,18 @@ fn moved_to(c: Context, pcid: u64, cpl: u64, place: Place) -> Context
     Context {
         capability: c.capability,
         width: c.width,
+        linear_width: c.linear_width,
         pcid,
         cpl,
         place,
     }
+}
+
+// The context after a reset: outside, PCID 0, CPL 0; capability and both widths stay.
+pub fn reset(c: Context) -> Context
+    ensures { λ r. ⌜ r ≡ after-reset c ⌝ }
+{
+    moved_to(c, 0, 0, Place::Outside)
 }
 
 // The context after an accepted event.

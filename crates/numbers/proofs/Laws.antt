@@ -12,5 +12,8 @@ number-4 at r = simp add-assoc (omega arith)
 pub number-5 : (at : ℕ) (r : List ℕ) → number 5 at r ≡ number 4 at r + 4294967296 * number 1 (at + 4) r
 number-5 at r = simp add-assoc (omega arith)
 
+pub number-6 : (at : ℕ) (r : List ℕ) → number 6 at r ≡ number 4 at r + 4294967296 * number 2 (at + 4) r
+number-6 at r = simp add-assoc (omega arith)
+
 pub number-8 : (at : ℕ) (r : List ℕ) → number 8 at r ≡ number 4 at r + 4294967296 * number 4 (at + 4) r
 number-8 at r = simp add-assoc (omega arith)

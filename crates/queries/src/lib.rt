@@ -3,8 +3,6 @@
 // asked for are read.
 use model::Reason;
 ghost use mathlib.Core.Path.{_≡_};
-ghost use Prim.Native.Nat.{_<_};
-ghost use Rattle.model.specs.Bits.{bit};
 ghost use Rattle.model.specs.Mappings.{mapping, Held};
 ghost use Rattle.model.specs.Scopes.{passed};
 ghost use Rattle.model.specs.Reasons.{first-failed};
@@ -84,20 +82,12 @@ fn is_touched(tags: Tags, tag: u64) -> bool
     }
 }
 
-// The kind is in a set of kinds.
-fn is_among(kinds: u64, kind: u64) -> bool
-    requires { ⌜ kind < 64 ⌝ }
-    ensures { λ r. ⌜ r ≡ bit kind kinds ⌝ }
-{
-    (kinds >> kind) % 2 == 1
-}
-
 // The record's kind is touched.
 fn is_of_kind(q: Query, part: &[u8]) -> bool
     requires { ⌜ Held (now part) ⌝ }
     ensures { λ r. ⌜ r ≡ query-tests q (mapping (now (part .entry))) .kind ⌝ }
 {
-    is_among(q.kinds, mappings::kind(part))
+    kinds::is_among(q.kinds, mappings::kind(part))
 }
 
 // Its VPID is touched; a guest-physical mapping has none to ask for.

@@ -74,7 +74,7 @@ fn end_of_run(log: &[u8]) -> End {
     let mut at = 0;
     let mut event = 1;
     while at < log.len() {
-        let length = logs::length_of_event(&log[at..]);
+        let length = logs::length_of_event(48, &log[at..]);
         if length == 0 {
             return End { at, event };
         }
@@ -96,7 +96,7 @@ fn say_end(log: &[u8]) {
         io::print_decimal(STDERR_FILENO, end.event as u64);
         io::write_all(STDERR_FILENO, b", byte ");
         io::print_decimal(STDERR_FILENO, at as u64);
-        if logs::length_of_event(&log[at..]) == 0 {
+        if logs::length_of_event(48, &log[at..]) == 0 {
             io::write_all(STDERR_FILENO, b": the kind is unknown\n");
         } else {
             io::write_all(STDERR_FILENO, b": the record is cut\n");
@@ -118,8 +118,8 @@ fn say_unreplayed(log: &[u8]) {
 
 // Two buffers for tables, and one for 390 lines.
 fn replay(log: &[u8]) {
-    let mut first = [0u8; 45056];
-    let mut second = [0u8; 45056];
+    let mut first = [0u8; 47104];
+    let mut second = [0u8; 47104];
     let mut text = [0u8; 32760];
     write_text(log, &mut first, &mut second, &mut text);
     say_unreplayed(log);

@@ -13,7 +13,7 @@ use Rattle.model.specs.Scopes.{vpid-tagged}
 use Rattle.model.specs.Steps.{stepped, written}
 use Rattle.runs.specs.Runs.{Run, run-answer, run-after, run-of}
 
--- the record is one "of V among kinds 1, 3, 4 and 6"
+-- the record is one "of V among kinds 1, 3, 4 and 6"; "The 57-bit kinds join their 48-bit siblings."
 unfoldable pub of-vpid : ℕ → List ℕ → Bool
 of-vpid vpid r = vpid-tagged (mapping r) && eqb (mapping r .vpid) vpid
 

@@ -53,7 +53,7 @@ unfoldable pub book-table : Book → List ℕ
 book-table b = joined (standing (b .notes))
 
 -- "An event's answer is the one given for the book's context, the standing records as old table and a
--- new buffer of 45,056 bytes."
+-- new buffer of 45,056 [47,104 by Ask 12] bytes."
 unfoldable pub book-answer : Book → List ℕ → ℕ
 book-answer b e = answer (b .context) (book-table b) e limit
 

@@ -21,13 +21,18 @@ by-vpid kind body = kind ∷ bytes 2 5 ++ bytes 2 6 ++ body ++ bytes 10 0 ++ byt
 by-ep4ta : ℕ → List ℕ
 by-ep4ta kind = kind ∷ bytes 5 7 ++ bytes 11 0
 
--- "the same records of V among kinds 1, 3, 4 and 6": that very VPID, and no record without one
+-- "the same records of V among kinds 1, 3, 4 and 6"; "The 57-bit kinds join their 48-bit siblings.": that very VPID, and no record without one
 vpids : Bool
 vpids =
     of-vpid 5 (by-vpid 1 (0 ∷ 0 ∷ []))
     && of-vpid 5 (by-vpid 3 (0 ∷ 0 ∷ []))
     && of-vpid 5 (by-vpid 4 (1 ∷ []))
     && of-vpid 5 (by-vpid 6 (1 ∷ []))
+    && of-vpid 5 (by-vpid 7 (0 ∷ 0 ∷ 0 ∷ []))
+    && of-vpid 5 (by-vpid 8 (0 ∷ 0 ∷ 0 ∷ []))
+    && of-vpid 5 (by-vpid 9 (1 ∷ 0 ∷ []))
+    && of-vpid 5 (by-vpid 10 (1 ∷ 0 ∷ []))
+    && not (of-vpid 6 (by-vpid 9 (1 ∷ 0 ∷ [])))
     && not (of-vpid 4 (by-vpid 1 (0 ∷ 0 ∷ [])))
     && not (of-vpid 6 (by-vpid 1 (0 ∷ 0 ∷ [])))
     && not (of-vpid 0 (by-ep4ta 2))
@@ -43,12 +48,14 @@ ep4tas =
     && not (of-ep4ta 8 (by-ep4ta 2))
     && not (of-ep4ta 7 (by-vpid 3 (0 ∷ 0 ∷ [])))
     && not (of-ep4ta 7 (by-vpid 6 (1 ∷ [])))
+    && not (of-ep4ta 7 (by-vpid 8 (0 ∷ 0 ∷ 0 ∷ [])))
+    && not (of-ep4ta 7 (by-vpid 10 (1 ∷ 0 ∷ [])))
     && not (of-ep4ta 0 (by-vpid 1 (0 ∷ 0 ∷ [])))
     && not (of-ep4ta 0 (by-vpid 4 (1 ∷ [])))
 
 -- a report whose numbers differ, and what is compared of it
 context : Context
-context = record { capability = 11; width = 12; pcid = 13; cpl = 14; place = Root }
+context = record { capability = 11; width = 12; «linear_width» = 15; pcid = 13; cpl = 14; place = Root }
 
 report : Report
 report = record { answer = 21; rule = 22; dropped = 23; context = context }

@@ -152,8 +152,8 @@ pub record SecondRun (c : Context) (es : List (List ℕ)) (a b : List ℕ) (remo
   pub verdicts : map verdict (second-reports removals (started c a′ b′) es) ≡ map verdict (run-reports (started c a b) es)
   pub usable : Compared (second-gaps removals (started c a′ b′) es) (run-states (started c a b) es)
 
--- Demand 3: every context that gives a capability and N, every list of events, all buffers of at least
--- 45,056 bytes, and every choice of removals. The second run's half is on the condition that the first
+-- Demand 3: every context that gives a capability, N and a linear width, every list of events, all buffers of at least
+-- 47,104 bytes, and every choice of removals. The second run's half is on the condition that the first
 -- run refused no creation for room.
 pub record Demand3 (c : Context) (es : List (List ℕ)) (a b : List ℕ) : Type 0 where
   pub first-run : FirstRun c es a b

@@ -16,13 +16,13 @@ ghost use Rattle.model.specs.Reasons.{reason};
 ghost use Rattle.queries.specs.Queries.{any, only, all-but, Meets};
 ghost use Rattle.scopes.specs.Tags.{tags-of-ept};
 
-// Sets of kinds, bit k for kind k: all six; linear and combined mappings, which carry a VPID and a PCID;
+// Sets of kinds, bit k for kind k: all ten; linear and combined mappings, which carry a VPID and a PCID;
 // guest-physical and combined ones, which carry an EP4TA; and guest-physical ones alone.
-const ALL: u64 = 0x7E;
+const ALL: u64 = 0x7FE;
 
-const WITH_VPID: u64 = 0x5A;
+const WITH_VPID: u64 = 0x7DA;
 
-const WITH_EP4TA: u64 = 0x6C;
+const WITH_EP4TA: u64 = 0x56C;
 
 const GUEST_PHYSICAL: u64 = 0x24;
 
@@ -57,8 +57,8 @@ fn vpids_named(o: Operands) -> Tags
 }
 
 // What an INVVPID asks: types 0 and 3 more than the VPID.
-fn invvpid_query(o: Operands) -> Query
-    ensures { λ r. ⌜ Meets (invvpid-tests o) r ⌝ }
+fn invvpid_query(c: Context, o: Operands) -> Query
+    ensures { λ r. ⌜ Meets (invvpid-tests c o) r ⌝ }
 {
     let any = queries::any();
     let vpid = vpids_named(o);
@@ -72,7 +72,7 @@ fn invvpid_query(o: Operands) -> Query
         covering: o.type_number == 0,
         structures: true,
         physical: 0,
-        linear: addresses::page(o.high),
+        linear: addresses::page(c.linear_width, o.high),
         sparing: !(o.type_number <= 2),
     }
 }
@@ -116,7 +116,7 @@ fn invlpg_query(c: Context, address: u64) -> Query
         covering: true,
         structures: false,
         physical: 0,
-        linear: addresses::page(address),
+        linear: addresses::page(c.linear_width, address),
         sparing: false,
     }
 }
@@ -133,7 +133,7 @@ fn current_ep4tas(ept: Ept) -> Tags
 
 // The kinds that an EPT violation touches: combined mappings with linear flag 1 alone.
 fn kinds_of_violation(v: Violation) -> u64
-    ensures { λ r. ⌜ r ≡ cond (eqb (v .flag) 1) 0x6C 0x24 ⌝ }
+    ensures { λ r. ⌜ r ≡ cond (eqb (v .flag) 1) 0x56C 0x24 ⌝ }
 {
     if v.flag == 1 {
         WITH_EP4TA
@@ -160,8 +160,8 @@ fn violation_query(c: Context, v: Violation) -> Query
         ep4ta,
         covering: true,
         structures: true,
-        physical: addresses::page(v.physical),
-        linear: addresses::page(v.linear),
+        physical: addresses::guest_physical_page(v.physical),
+        linear: addresses::page(c.linear_width, v.linear),
         sparing: false,
     }
 }
@@ -215,7 +215,7 @@ fn invpcid_query(c: Context, o: Operands) -> Query
         covering: o.type_number == 0,
         structures: true,
         physical: 0,
-        linear: addresses::page(o.high),
+        linear: addresses::page(c.linear_width, o.high),
         sparing: !(o.type_number == 2),
     }
 }
@@ -275,7 +275,7 @@ fn is_addressed(c: Context, e: Event) -> bool
         Event::Creation(_) => true,
         Event::Invvpid(_) => true,
         Event::Invept(_) => true,
-        Event::Invlpg(address) => addresses::is_canonical(address),
+        Event::Invlpg(address) => addresses::is_canonical(c.linear_width, address),
         Event::EptViolation(_) => true,
         Event::Entry(_) => true,
         Event::Exit(_) => true,
@@ -302,7 +302,7 @@ pub fn query(c: Context, e: Event) -> Query
 {
     match e {
         Event::Creation(_) => no_query(),
-        Event::Invvpid(o) => invvpid_query(o),
+        Event::Invvpid(o) => invvpid_query(c, o),
         Event::Invept(o) => invept_query(o),
         Event::Invlpg(address) => invlpg_query(c, address),
         Event::EptViolation(v) => violation_query(c, v),

@@ -15,10 +15,10 @@ use Rattle.skuldrefn.specs.Flat.{flat-result, flat-step, flat-written, f
 
 -- a context in root, the same as numbers, and numbers that stand for nothing
 context : Context
-context = record { capability = 11; width = 12; pcid = 13; cpl = 14; place = Root }
+context = record { capability = 11; width = 12; «linear_width» = 15; pcid = 13; cpl = 14; place = Root }
 
 numbers : ℕ → FlatContext
-numbers place = record { capability = 11; width = 12; pcid = 13; cpl = 14; place = place; vpid = 0; ept = 0; ep4ta = 0 }
+numbers place = record { capability = 11; width = 12; «linear_width» = 15; pcid = 13; cpl = 14; place = place; vpid = 0; ept = 0; ep4ta = 0 }
 
 -- a step with an answer, and a replay whose table is in the first buffer or in the second
 told : ℕ → Step
@@ -37,8 +37,8 @@ record Rows : Type 0 where
   unexplained : flat-explanation (numbers 3) [] [] ≡ record { reason = 1; answer = 1; rule = 0 }
   first : flat-replayed (replay true) ≡ record { context = numbers 1; length = 21; first = 1; count = 22 }
   second : flat-replayed (replay false) ≡ record { context = numbers 1; length = 21; first = 0; count = 22 }
-  begun : flatten (fresh 11 12)
-      ≡ record { capability = 11; width = 12; pcid = 0; cpl = 0; place = 0; vpid = 0; ept = 0; ep4ta = 0 }
+  begun : flatten (fresh 11 12 15)
+      ≡ record { capability = 11; width = 12; «linear_width» = 15; pcid = 0; cpl = 0; place = 0; vpid = 0; ept = 0; ep4ta = 0 }
 
 cards-hold : Rows
 unfolding context numbers told replay is-known flatten flat-step flat-written flat-lookup flat-explanation flat-replayed

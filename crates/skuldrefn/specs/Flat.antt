@@ -62,16 +62,24 @@ flat-explanation c r e =
     })
     (record { reason = 1; answer = 1; rule = 0 })
 
--- the context of a capability and N after a reset
-abbrev pub fresh : ℕ → ℕ → Context
-fresh capability width = record { capability = capability; width = width; pcid = 0; cpl = 0; place = Outside }
+-- the context of a capability, N and a linear width after a reset
+abbrev pub fresh : ℕ → ℕ → ℕ → Context
+fresh capability width linear-width =
+    record {
+      capability = capability;
+      width = width;
+      «linear_width» = linear-width;
+      pcid = 0;
+      cpl = 0;
+      place = Outside;
+    }
 
 -- what a replay leaves, as numbers
 unfoldable pub flat-replayed : Replayed → FlatReplayed
 flat-replayed r =
     record { context = flatten (r .context); length = r .length; first = cond (r .first) 1 0; count = r .count }
 
--- a replay: the run's, for any buffers, and the book's for buffers of at least 45,056 bytes
+-- a replay: the run's, for any buffers, and the book's for buffers of at least 47,104 bytes
 pub record FlatReplays (c : Context) (log a b out : List ℕ) (r : FlatReplayed) (a′ b′ out′ : List ℕ) : Type 0 where
   pub replayed : Replayed
   pub told : r ≡ flat-replayed replayed

@@ -4,8 +4,10 @@ use flat_contexts::FlatContext;
 use model::Address;
 use model::Context;
 use model::Place;
+use widening::Widened;
 ghost use mathlib.Core.Path.{_≡_};
 ghost use lib.ListN.{length};
+ghost use Rattle.widening.specs.Widening.{widening, widening-written};
 ghost use Rattle.logs.specs.Logs.{told-length};
 ghost use Rattle.skuldrefn.specs.Flat.{flat-step, flat-written, flat-lookup, flat-explanation, fresh, FlatReplays};
 ghost use mathlib.Core.Bool.{cond};
@@ -147,13 +149,23 @@ pub extern "C" fn skuldrefn_explain(context: FlatContext, bytes: &[u8], event: &
     }
 }
 
-// How many bytes the first event of a log has by its kind, more than the log where the record is cut; 0
-// where the kind is unknown or there is no byte.
+// Rewrites a stored 48-bit table as a 57-bit one: the answer, 2, 3 or 12, and the length of the new table. A refusal
+// writes nothing.
 #[no_mangle]
-pub extern "C" fn skuldrefn_event_length(log: &[u8]) -> usize
-    ensures { λ r. ⌜ r ≡ told-length (now (log .entry)) ⌝ }
+pub extern "C" fn skuldrefn_widen(table: &[u8], new: &mut [u8]) -> Widened
+    ensures { λ r. ⌜ r ≡ widening (now (table .entry)) (length (now (new .entry))) ⌝ }
+    ensures { λ _. ⌜ now (new .exit) ≡ widening-written (now (table .entry)) (now (new .entry)) ⌝ }
 {
-    logs::length_of_event(log)
+    widening::widen(table, new)
+}
+
+// How many bytes the first event of a log has by its kind, more than the log where the record is cut; 0
+// where the kind is unknown at the linear width or there is no byte. Any width but 57 is read as 48.
+#[no_mangle]
+pub extern "C" fn skuldrefn_event_length(linear_width: u64, log: &[u8]) -> usize
+    ensures { λ r. ⌜ r ≡ told-length «linear_width» (now (log .entry)) ⌝ }
+{
+    logs::length_of_event(linear_width, log)
 }
 
 // What a replay leaves: the context, the length of the table in force, whether the first of the two
@@ -173,22 +185,24 @@ fn number_of(b: bool) -> u64
     if b { 1 } else { 0 }
 }
 
-// Replays the events of a log from a reset with a capability and width, through two buffers, and
+// Replays the events of a log from a reset with a capability and two widths, through two buffers, and
 // writes a row of 24 bytes for each event, as many as there is room for.
 #[no_mangle]
 pub extern "C" fn skuldrefn_replay(
     capability: u64,
     width: u64,
+    linear_width: u64,
     log: &[u8],
     first: &mut [u8],
     second: &mut [u8],
     rows: &mut [u8],
 ) -> FlatReplayed
-    ensures { λ r. ⌜ FlatReplays (fresh capability width) (now (log .entry)) (now (first .entry)) (now (second .entry)) (now (rows .entry)) r (now (first .exit)) (now (second .exit)) (now (rows .exit)) ⌝ }
+    ensures { λ r. ⌜ FlatReplays (fresh capability width «linear_width») (now (log .entry)) (now (first .entry)) (now (second .entry)) (now (rows .entry)) r (now (first .exit)) (now (second .exit)) (now (rows .exit)) ⌝ }
 {
     let fresh = Context {
         capability,
         width,
+        linear_width,
         pcid: 0,
         cpl: 0,
         place: Place::Outside,

@@ -94,7 +94,7 @@ pub fn step_judged(c: Context, table: &[u8], count: usize, event: &[u8], new: &m
     ensures { λ r. ⌜ r ≡ stepped c (now (table .entry)) (now (event .entry)) (length (now (new .entry))) ⌝ }
     ensures { λ _. ⌜ now (new .exit) ≡ written c (now (table .entry)) (now (event .entry)) (now (new .entry)) ⌝ }
 {
-    let EventReading::Read(e) = events::read_event(event) else {
+    let EventReading::Read(e) = events::read_event(c.linear_width, event) else {
         return refused(4, 0, c);
     };
     let answer = answers::answer_to_event(c, e);
@@ -114,7 +114,10 @@ pub fn step(c: Context, table: &[u8], event: &[u8], new: &mut [u8]) -> Step
     ensures { λ r. ⌜ r ≡ stepped c (now (table .entry)) (now (event .entry)) (length (now (new .entry))) ⌝ }
     ensures { λ _. ⌜ now (new .exit) ≡ written c (now (table .entry)) (now (event .entry)) (now (new .entry)) ⌝ }
 {
-    let judged = tables::judge(c, table);
+    if !contexts::is_in_range(c) {
+        return refused(1, 0, c);
+    }
+    let judged = tables::judge(c.linear_width, table);
     if judged.answer != 0 {
         return refused(judged.answer, 0, c);
     }

@@ -10,7 +10,7 @@ use Rattle.model.specs.Buffers.{put}
 use Rattle.model.specs.Tables.{limit}
 use Rattle.runs.specs.Book.{opened}
 use Rattle.logs.specs.declared.Progress.{Progress}
-use Rattle.logs.specs.Logs.{log-limit, program, events-of, events-from}
+use Rattle.logs.specs.Logs.{log-limit, program, program-width, events-of, events-from}
 use Rattle.logs.specs.Replays.{Line, book-lines, run-lines}
 use Rattle.logs.specs.State.{run-at, begun, Ready, Progresses}
 use Rattle.lines.specs.Text.{line-text, line-limit}
@@ -29,25 +29,25 @@ too-long = 116 ∷ 111 ∷ 111 ∷ 32 ∷ 108 ∷ 111 ∷ 110 ∷ 103 ∷ 10 ∷
 -- the table in force."
 unfoldable pub program-text : List ℕ → List ℕ
 program-text log =
-    cond (leb (length log) log-limit) (numbered-from 1 (book-lines (opened program) (events-of log))) too-long
+    cond (leb (length log) log-limit) (numbered-from 1 (book-lines (opened program) (events-of program-width log))) too-long
 
 -- what is still to be printed of it: the lines of the events that were not taken yet, or `too long`
 unfoldable pub text-left : Progress → List ℕ → List ℕ → List ℕ → List ℕ
 text-left p log a b =
     cond (leb (length log) log-limit)
-    (numbered-from (p .count + 1) (run-lines (run-at (p .state) a b) (events-of (drop (p .at) log))))
+    (numbered-from (p .count + 1) (run-lines (run-at (p .state) a b) (events-of program-width (drop (p .at) log))))
     (cond (ltb (p .at) (length log)) too-long [])
 
 -- the lines of at most n of those events
 unfoldable pub next-lines : Progress → List ℕ → List ℕ → List ℕ → ℕ → List ℕ
-next-lines p log a b n = numbered-from (p .count + 1) (run-lines (run-at (p .state) a b) (events-from log (p .at) n))
+next-lines p log a b n = numbered-from (p .count + 1) (run-lines (run-at (p .state) a b) (events-from program-width log (p .at) n))
 
 -- the next piece, for which there is room for so many bytes
 unfoldable pub next-text : Progress → List ℕ → List ℕ → List ℕ → ℕ → List ℕ
 next-text p log a b room =
     cond (leb (length log) log-limit) (next-lines p log a b (room / line-limit)) (cond (ltb (p .at) (length log)) too-long [])
 
--- at the start, with two buffers of at least 45,056 bytes, all of the text is left
+-- at the start, with two buffers of at least 47,104 bytes, all of the text is left
 pub record Starts (r : Progress) : Type 0 where
   pub begun : r ≡ begun program
   pub ready : (log a b : List ℕ) → Ready r log a b
@@ -65,7 +65,7 @@ pub record TellsLines (p : Progress) (log a b out : List ℕ) (r : Piece) (a′ 
   pub text : out′ ≡ put 0 (next-lines p log a b (length out / line-limit)) out
   pub size : r .length ≡ length (next-lines p log a b (length out / line-limit))
   pub counts : Counts (r .length) out′
-  pub progress : Progresses p log a b (length out / line-limit) (r .progress) a′ b′
+  pub progress : Progresses program-width p log a b (length out / line-limit) (r .progress) a′ b′
 
 -- A piece: its text and length, and how far the replay is after it. What was left is the piece and then what
 -- is left after it; the piece is empty only where nothing was left, and else it took some of the log.
@@ -73,7 +73,7 @@ pub record Continues (p : Progress) (log a b out : List ℕ) (r : Piece) (a′ b
   pub text : out′ ≡ put 0 (next-text p log a b (length out)) out
   pub size : r .length ≡ length (next-text p log a b (length out))
   pub counts : Counts (r .length) out′
-  pub short : length log ≤ log-limit → Progresses p log a b (length out / line-limit) (r .progress) a′ b′
+  pub short : length log ≤ log-limit → Progresses program-width p log a b (length out / line-limit) (r .progress) a′ b′
   pub long : log-limit < length log → (r .progress ≡ record { state = p .state; at = length log; count = p .count }) × ((a′ ≡ a) × (b′ ≡ b))
   pub ready : Ready (r .progress) log a′ b′
   pub left : text-left p log a b ≡ next-text p log a b (length out) ++ text-left (r .progress) log a′ b′

@@ -21,7 +21,7 @@ pub struct Piece {
     pub length: usize,
 }
 
-// The program's context: capability bits 6, 8, 14, 20, 21, 25, 26, 32 and 40 to 43, N = 52, after a
+// The program's context: capability bits 6, 8, 14, 20, 21, 25, 26, 32 and 40 to 43, N = 52, linear width 48, after a
 // reset.
 fn context() -> Context
     ensures { λ r. ⌜ r ≡ program ⌝ }
@@ -29,6 +29,7 @@ fn context() -> Context
     Context {
         capability: 0x0F01_0630_4140,
         width: 52,
+        linear_width: 48,
         pcid: 0,
         cpl: 0,
         place: Place::Outside,
@@ -81,7 +82,7 @@ fn write_lines(
     let mut lines = 0;
     let mut used = 0;
     while (q.at < log.len()) & (lines < most) {
-        let advanced = logs::advance(q, log, first, second);
+        let advanced = logs::advance(48, q, log, first, second);
         q = advanced.progress;
         used = lines::put_line(
             q.count as u64,

@@ -3,8 +3,8 @@
 use crate::measure::{plain_copy, time, Buffers, Calls, Item};
 use crate::rows::{Row, What};
 use crate::tables::{guest, Shape, Tables, EP4TA};
-use common::{Record, TABLE_LIMIT};
-use model::{tuned, Address, Context};
+use common::{sibling, Record};
+use model::{tuned, Address, Context, LinearWidth};
 use std::hint::black_box;
 use std::rc::Rc;
 
@@ -26,15 +26,17 @@ pub const PLACES: [(Where, &str); 3] = [
 ];
 
 /// The context of a lookup, and a record that it finds: kind 4 with EPT not
-/// in use, kind 6 with EPT in use, and kind 5 for a guest-physical address.
+/// in use, kind 6 (10 at 57 bits) with EPT in use, and kind 5 for a
+/// guest-physical address.
 fn wanted(shape: Shape, address: Address) -> (Context, Vec<u8>) {
     let (kind, ept) = match (shape, address) {
-        (Shape::Mixed, Address::Linear(_)) => (6, Some(EP4TA)),
-        (Shape::Mixed, Address::GuestPhysical(_)) => (5, Some(EP4TA)),
+        (Shape::Mixed | Shape::Wide, Address::Linear(_)) => (6, Some(EP4TA)),
+        (Shape::Mixed | Shape::Wide, Address::GuestPhysical(_)) => (5, Some(EP4TA)),
         _ => (4, None),
     };
+    let linear_width = shape.linear_width();
     let record = Record {
-        kind,
+        kind: sibling(linear_width, kind),
         vpid: 5,
         pcid: 0,
         global: 0,
@@ -43,12 +45,16 @@ fn wanted(shape: Shape, address: Address) -> (Context, Vec<u8>) {
         frame: 7,
         ep4ta: EP4TA,
     };
-    (guest(5, ept), record.bytes())
+    let context = Context {
+        linear_width,
+        ..guest(5, ept)
+    };
+    (context, record.bytes())
 }
 
 /// The table with one record changed for the one that is looked up.
-fn with(table: &[u8], record: &[u8], place: Where) -> Vec<u8> {
-    let records = model::mapping::records(table).unwrap_or_default();
+fn with(width: LinearWidth, table: &[u8], record: &[u8], place: Where) -> Vec<u8> {
+    let records = model::mapping::records(width, table).unwrap_or_default();
     let chosen = match place {
         Where::First => records.first(),
         Where::Last => records.last(),
@@ -74,8 +80,10 @@ pub fn item(
     if tables.records == 0 && !matches!(place, Where::Nowhere) {
         return Ok(None);
     }
-    let all = tables.all.iter().map(|table| with(table, &record, place));
-    let all: Vec<Vec<u8>> = all.filter(|table| table.len() <= TABLE_LIMIT).collect();
+    let tables_with = |table: &Vec<u8>| with(context.linear(), table, &record, place);
+    let all = tables.all.iter().map(tables_with);
+    let limit = tables.shape.limit();
+    let all: Vec<Vec<u8>> = all.filter(|table| table.len() <= limit).collect();
     agree(&context, &all, address, place)?;
     let sort = match address {
         Address::Linear(_) => "linear",

@@ -2,10 +2,12 @@
 
 use crate::measure::{time, Buffers, Calls, Item, Shared};
 use crate::rows::{Row, What};
+use crate::tables::FULL;
 use bridge::FlatReplayed;
-use common::{encode, LOG_LIMIT, PROGRAM_CAPABILITY, PROGRAM_WIDTH, ROW, TABLE_LIMIT};
+use common::{encode, LOG_LIMIT, ROW};
+use common::{PROGRAM_CAPABILITY, PROGRAM_LINEAR_WIDTH, PROGRAM_WIDTH};
 use generate::Rng;
-use model::{tuned, Line};
+use model::{tuned, Context, Line, LinearWidth};
 use std::hint::black_box;
 use std::mem::swap;
 use std::rc::Rc;
@@ -17,12 +19,12 @@ pub struct Log {
 }
 
 /// The logs: the two shapes of the generator, then two that keep the table
-/// full for long.
+/// full, or nearly so, for long.
 pub fn logs() -> Vec<Log> {
     // VPID 0, PCID 0, span 1, page 0.
     let creation = encode(4, &[0, 0, 1, 0, 0x07_0707_0707]);
-    let filling = creation.repeat(TABLE_LIMIT / creation.len());
-    let switches = [22, 23].repeat((LOG_LIMIT - TABLE_LIMIT) / 2);
+    let filling = creation.repeat(FULL / creation.len());
+    let switches = [22, 23].repeat((LOG_LIMIT - FULL) / 2);
     vec![
         Log {
             name: "random events",
@@ -30,7 +32,7 @@ pub fn logs() -> Vec<Log> {
         },
         Log {
             name: "filling, then random",
-            bytes: generate::filling_log(&mut Rng::new(1)),
+            bytes: generate::filling_log(&mut Rng::new(1), PROGRAM_LINEAR_WIDTH),
         },
         Log {
             name: "creations only",
@@ -47,7 +49,7 @@ pub fn logs() -> Vec<Log> {
 /// events added up to the limit.
 fn random() -> Vec<u8> {
     for seed in 0.. {
-        let mut log = generate::log(&mut Rng::new(seed), LOG_LIMIT - 32);
+        let mut log = generate::log(&mut Rng::new(seed), PROGRAM_LINEAR_WIDTH, LOG_LIMIT - 32);
         if log.len() <= LOG_LIMIT && is_whole(&log) {
             log.resize(LOG_LIMIT, 22);
             return log;
@@ -58,7 +60,7 @@ fn random() -> Vec<u8> {
 
 fn is_whole(log: &[u8]) -> bool {
     let mut rest = log;
-    while let Some(event) = model::replay::first_event(rest) {
+    while let Some(event) = model::replay::first_event(LinearWidth::Bits48, rest) {
         rest = &rest[event.len()..];
     }
     rest.is_empty()
@@ -101,7 +103,10 @@ fn lengths(log: &[u8], buffers: &Buffers, others: &Buffers) -> Vec<usize> {
     let mut lengths = vec![0];
     let mut old = buffers.0[1].borrow_mut();
     let mut new = others.0[1].borrow_mut();
-    tuned::replay(log, &mut old, &mut new, |line| lengths.push(line.length));
+    let start = Context::program();
+    tuned::replay(&start, log, &mut old, &mut new, |line| {
+        lengths.push(line.length);
+    });
     lengths.pop();
     lengths
 }
@@ -123,7 +128,10 @@ fn agree(
     );
     let mut old = buffers.0[1].borrow_mut();
     let mut new = others.0[1].borrow_mut();
-    tuned::replay(log, &mut old, &mut new, |line| write_row(&mut due, line));
+    let start = Context::program();
+    tuned::replay(&start, log, &mut old, &mut new, |line| {
+        write_row(&mut due, line);
+    });
     if rows != due || end.count != events {
         return Err(format!("{name}: the library's rows are not the model's"));
     }
@@ -131,7 +139,15 @@ fn agree(
 }
 
 fn replay(log: &[u8], first: &mut [u8], second: &mut [u8], rows: &mut [u8]) -> FlatReplayed {
-    bridge::replay_flat(PROGRAM_CAPABILITY, PROGRAM_WIDTH, log, first, second, rows)
+    bridge::replay_flat(
+        PROGRAM_CAPABILITY,
+        PROGRAM_WIDTH,
+        PROGRAM_LINEAR_WIDTH,
+        log,
+        first,
+        second,
+        rows,
+    )
 }
 
 fn library(log: Rc<Vec<u8>>, first: Shared, second: Shared, events: usize) -> Calls {
@@ -152,7 +168,8 @@ fn tuned_model(log: Rc<Vec<u8>>, old: Shared, new: Shared, events: usize) -> Cal
         let mut new = new.borrow_mut();
         time(events, || {
             let each = |line| write_row(&mut rows, line);
-            black_box(tuned::replay(&log, &mut old, &mut new, each));
+            let start = Context::program();
+            black_box(tuned::replay(&start, &log, &mut old, &mut new, each));
         })
     })
 }

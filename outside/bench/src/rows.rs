@@ -6,6 +6,8 @@ use crate::tables::COUNTS;
 pub enum What {
     Step,
     Lookup,
+    /// The converter of 48-bit tables.
+    Widen,
     Replay,
 }
 
@@ -14,6 +16,7 @@ impl What {
         match self {
             What::Step => "step",
             What::Lookup => "lookup",
+            What::Widen => "widen",
             What::Replay => "replay",
         }
     }

@@ -3,7 +3,7 @@
 use crate::measure::{plain_copy, time, Buffers, Calls, Item, Shared};
 use crate::rows::{Row, What};
 use crate::tables::{at, guest, starts, Tables, EP4TA, PAGE};
-use common::{encode, is_mapping_kind, TABLE_LIMIT};
+use common::{encode, is_mapping_kind, sibling};
 use model::{tuned, Context, Place};
 use std::hint::black_box;
 use std::rc::Rc;
@@ -33,7 +33,22 @@ fn entry(vpid: u64) -> Vec<u8> {
     encode(20, &[enabled, vpid, 0, 0, 0, 0])
 }
 
-/// All families.
+/// The few families that are measured at 57 bits too.
+const WIDE: [&str; 4] = ["creation", "INVVPID 0", "INVLPG", "EPT violation"];
+
+pub fn wide_families() -> Vec<Family> {
+    let mut families = families();
+    families.retain(|family| WIDE.contains(&family.name));
+    for family in &mut families {
+        family.context.linear_width = 57;
+        if is_mapping_kind(family.event[0]) {
+            family.event = encode(sibling(57, 4), &[0, 0, 1, 0, 7]);
+        }
+    }
+    families
+}
+
+/// All families, at 48 bits.
 pub fn families() -> Vec<Family> {
     let root = at(Place::Root);
     let outside = at(Place::Outside);
@@ -99,9 +114,10 @@ pub fn item(family: &Family, tables: &Tables, buffers: &Buffers) -> Result<Item,
 /// The old tables: a creation on the fullest ones finds one record fewer.
 fn old_tables(family: &Family, tables: &Tables) -> Vec<Vec<u8>> {
     let mut olds = tables.all.clone();
+    let (width, limit) = (tables.shape.linear_width(), tables.shape.limit());
     for table in &mut olds {
-        if is_mapping_kind(family.event[0]) && table.len() + family.event.len() > TABLE_LIMIT {
-            table.truncate(starts(table).last().copied().unwrap_or(0));
+        if is_mapping_kind(family.event[0]) && table.len() + family.event.len() > limit {
+            table.truncate(starts(width, table).last().copied().unwrap_or(0));
         }
     }
     olds

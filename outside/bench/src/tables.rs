@@ -1,11 +1,15 @@
 //! The tables that are measured.
 
-use common::{Record, TABLE_LIMIT};
+use common::{is_wide_kind, kinds, Record, TABLE_LIMIT};
 use generate::Rng;
-use model::{Context, Place};
+use model::{Context, LinearWidth, Place};
 
 /// The numbers of records.
 pub const COUNTS: [usize; 5] = [0, 16, 176, 1_408, 2_816];
+
+/// The bytes of the fullest tables of 48-bit addresses. A table may have 2,048
+/// more since Ask 12; these stay, so that figures compare with older ones.
+pub const FULL: usize = 45_056;
 
 /// What a table is made of.
 #[derive(Clone, Copy, PartialEq, Eq)]
@@ -19,8 +23,11 @@ pub enum Shape {
     /// All six kinds, their tags scattered. The largest such table has fewer
     /// than 2,816 records.
     Mixed,
+    /// The same for 57-bit addresses, to the limit.
+    Wide,
 }
 
+/// The shapes on which every family of events is measured.
 pub const SHAPES: [Shape; 3] = [Shape::Alike, Shape::Scattered, Shape::Mixed];
 
 impl Shape {
@@ -29,6 +36,22 @@ impl Shape {
             Shape::Alike => "kind 4, alike",
             Shape::Scattered => "kind 4, scattered",
             Shape::Mixed => "mixed kinds",
+            Shape::Wide => "mixed kinds, 57 bits",
+        }
+    }
+
+    pub fn linear_width(self) -> u64 {
+        match self {
+            Shape::Wide => 57,
+            _ => 48,
+        }
+    }
+
+    /// The bytes of the fullest table.
+    pub fn limit(self) -> usize {
+        match self {
+            Shape::Wide => TABLE_LIMIT,
+            _ => FULL,
         }
     }
 }
@@ -58,12 +81,13 @@ pub struct Tables {
     pub all: Vec<Vec<u8>>,
 }
 
-/// Tables of so many records, or of as many as the limit allows.
+/// Tables of so many records, or of as many as the fullest have.
 pub fn tables(shape: Shape, count: usize) -> Tables {
     let mut rng = Rng::new(count as u64);
     let number = TOGETHER / count.max(16);
     let all: Vec<Vec<u8>> = (0..number).map(|_| table(&mut rng, shape, count)).collect();
-    let records = all.iter().map(|table| starts(table).len()).max();
+    let width = shape.linear_width();
+    let records = all.iter().map(|table| starts(width, table).len()).max();
     Tables {
         shape,
         records: records.unwrap_or(0),
@@ -72,8 +96,9 @@ pub fn tables(shape: Shape, count: usize) -> Tables {
 }
 
 /// Where the records of a valid table start.
-pub fn starts(table: &[u8]) -> Vec<usize> {
-    let records = model::mapping::records(table).unwrap_or_default();
+pub fn starts(linear_width: u64, table: &[u8]) -> Vec<usize> {
+    let width = LinearWidth::of(linear_width);
+    let records = model::mapping::records(width, table).unwrap_or_default();
     records.iter().map(|(place, _)| place.start).collect()
 }
 
@@ -81,7 +106,7 @@ fn table(rng: &mut Rng, shape: Shape, count: usize) -> Vec<u8> {
     let mut bytes = Vec::new();
     for _ in 0..count {
         let record = record(rng, shape);
-        if bytes.len() + record.len() > TABLE_LIMIT {
+        if bytes.len() + record.len() > shape.limit() {
             break;
         }
         bytes.extend_from_slice(&record);
@@ -92,8 +117,8 @@ fn table(rng: &mut Rng, shape: Shape, count: usize) -> Vec<u8> {
 fn record(rng: &mut Rng, shape: Shape) -> Vec<u8> {
     match shape {
         Shape::Scattered => scattered(rng, 4),
-        Shape::Mixed => {
-            let kind = 1 + rng.below(6) as u8;
+        Shape::Mixed | Shape::Wide => {
+            let kind = kinds(shape.linear_width())[rng.below(6)];
             scattered(rng, kind)
         }
         Shape::Alike => {
@@ -113,11 +138,12 @@ fn scattered(rng: &mut Rng, kind: u8) -> Vec<u8> {
         _ => (rng.pick(&VPIDS), rng.pick(&PCIDS)),
     };
     let global = match kind {
-        1 | 3 => rng.pick(&[0, 0, 0, 1]),
+        1 | 3 | 7 | 8 => rng.pick(&[0, 0, 0, 1]),
         _ => 0,
     };
     let span = 1 + rng.below(2) as u64;
-    let page = rng.pick(&[PAGE, 0x54_3210, 0x7FF_FFFF, 1 << 35]);
+    let high = if is_wide_kind(kind) { 1 << 44 } else { 1 << 35 };
+    let page = rng.pick(&[PAGE, 0x54_3210, 0x7FF_FFFF, high]);
     let record = Record {
         kind,
         vpid,

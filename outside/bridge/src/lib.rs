@@ -13,6 +13,7 @@ pub fn flat(context: &Context) -> FlatContext {
     FlatContext::from(&skuldrefn::Context {
         capability: context.capability,
         width: context.width,
+        linear_width: context.linear_width,
         pcid: context.pcid,
         cpl: context.cpl,
         place: match context.place {
@@ -30,6 +31,7 @@ pub fn context(flat: &FlatContext) -> Option<Context> {
     Some(Context {
         capability: context.capability,
         width: context.width,
+        linear_width: context.linear_width,
         pcid: context.pcid,
         cpl: context.cpl,
         place: match context.place {
@@ -85,6 +87,15 @@ pub fn step(context: &Context, table: &[u8], event: &[u8], new: &mut [u8]) -> mo
         context: self::context(&step.context).expect("a context"),
         length: step.length,
         dropped: step.dropped,
+    }
+}
+
+/// The converter of 48-bit tables.
+pub fn widen(table: &[u8], new: &mut [u8]) -> model::Widened {
+    let widened = skuldrefn::widen(table, new);
+    model::Widened {
+        answer: widened.answer,
+        length: widened.length,
     }
 }
 

@@ -1,7 +1,7 @@
 //! The header and the example in C, built with `cc` if there is one.
 
-use common::KINDS;
-use model::Reason;
+use common::{KINDS, LINEAR_WIDTHS};
+use model::{LinearWidth, Reason};
 use std::env::temp_dir;
 use std::fs;
 use std::path::{Path, PathBuf};
@@ -12,6 +12,7 @@ const PRINTED: &str = "\
 2 0 0 0
 3 0 0 17
 12345678h: the record just created
+at 57 bits: 18 bytes
 4 0 0 17
 INVVPID: takes the record
 5 0 1 0
@@ -106,6 +107,10 @@ fn the_header_has_the_limits_and_the_programs_numbers() {
             format!("UINT64_C({:#X})", model::PROGRAM_CAPABILITY).replace("0X", "0x"),
         ),
         ("PROGRAM_WIDTH", model::PROGRAM_WIDTH.to_string()),
+        (
+            "PROGRAM_LINEAR_WIDTH",
+            model::PROGRAM_LINEAR_WIDTH.to_string(),
+        ),
         ("EVENT_LIMIT", longest().to_string()),
     ] {
         let line = format!("#define SKULDREFN_{name} {number}\n");
@@ -116,10 +121,18 @@ fn the_header_has_the_limits_and_the_programs_numbers() {
     assert_eq!(skuldrefn::ROW, common::ROW);
     assert_eq!(skuldrefn::PROGRAM_CAPABILITY, model::PROGRAM_CAPABILITY);
     assert_eq!(skuldrefn::PROGRAM_WIDTH, model::PROGRAM_WIDTH);
+    assert_eq!(skuldrefn::PROGRAM_LINEAR_WIDTH, model::PROGRAM_LINEAR_WIDTH);
+}
+
+/// The length of an event of a kind, at the width at which it is known.
+fn length(kind: u8) -> Option<usize> {
+    let both = LINEAR_WIDTHS.map(LinearWidth::of);
+    both.iter()
+        .find_map(|width| model::event::length(*width, kind))
 }
 
 fn longest() -> usize {
-    let lengths = KINDS.map(model::event::length);
+    let lengths = KINDS.map(length);
     lengths.into_iter().flatten().max().expect("a kind")
 }
 
@@ -139,8 +152,8 @@ fn the_header_has_every_layout() {
         let kind: u8 = kind.trim_end_matches(',').parse().expect("a kind");
         let layout = layout.trim_end_matches(" */");
         let (length, fields) = layout.split_once(": ").unwrap_or((layout, ""));
-        let length: usize = length.parse().expect("a length");
-        assert_eq!(Some(length), model::event::length(kind), "{line}");
+        let due: usize = length.parse().expect("a length");
+        assert_eq!(Some(due), self::length(kind), "{line}");
         let starts: Vec<usize> = fields
             .split(", ")
             .filter(|field| !field.is_empty())
@@ -159,16 +172,50 @@ fn the_header_has_every_layout() {
     assert_eq!(found, KINDS.len());
 }
 
-/// The library tells the length of every kind.
+/// The library tells the length of every kind, at every linear width.
 #[test]
 fn lengths() {
-    for kind in 0..=255 {
-        let due = model::event::length(kind).unwrap_or(0);
-        for rest in [0, 1, 30] {
-            let log = [&[kind][..], &vec![0xA5; rest]].concat();
-            assert_eq!(skuldrefn::event_length(&log), due, "kind {kind}");
+    let widths = [0, 47, 48, 49, 56, 57, 58, (1 << 32) + 57, 57 << 8, u64::MAX];
+    for linear_width in widths {
+        let width = LinearWidth::of(linear_width);
+        for kind in 0..=255 {
+            let due = model::event::length(width, kind).unwrap_or(0);
+            for rest in [0, 1, 30] {
+                let log = [&[kind][..], &vec![0xA5; rest]].concat();
+                let got = skuldrefn::event_length(linear_width, &log);
+                assert_eq!(got, due, "kind {kind} at {linear_width:#x}");
+            }
         }
+        assert_eq!(skuldrefn::event_length(linear_width, &[]), 0);
     }
+}
+
+/// The context's fields in the header, in the order of the wrapper's.
+#[test]
+fn the_header_has_the_contexts_fields() {
+    let header = header();
+    let (_, rest) = header
+        .split_once("typedef struct {\n    uint64_t capability;")
+        .expect("it");
+    let (fields, _) = rest.split_once("} skuldrefn_context;").expect("it");
+    let names: Vec<&str> = fields
+        .lines()
+        .filter_map(|line| line.trim().strip_prefix("uint64_t "))
+        .filter_map(|line| line.split(';').next())
+        .collect();
+    let due = [
+        "width",
+        "linear_width",
+        "pcid",
+        "cpl",
+        "place",
+        "vpid",
+        "ept",
+        "ep4ta",
+    ];
+    assert_eq!(names, due);
+    let size = std::mem::size_of::<skuldrefn::FlatContext>();
+    assert_eq!(size, 8 * (1 + due.len()));
 }
 
 #[test]

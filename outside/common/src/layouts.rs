@@ -1,17 +1,52 @@
-//! Document 01's two tables and document 02's kinds 26 and 27 (Ask 5): the
-//! fields of each kind of event, by their bytes.
+//! Document 01's two tables, document 02's kinds 26 and 27 (Ask 5) and its kinds
+//! 7 to 10 (Ask 12): the fields of each kind of event, by their bytes.
 
 use crate::numbers::{number, put};
 use std::ops::Range;
 
-/// Every known kind of event; the first six are mapping records.
-pub const KINDS: [u8; 18] = [
+/// Every kind of event that is known at either linear width; the first ten are mapping records.
+pub const KINDS: [u8; 22] = [
+    1, 2, 3, 4, 5, 6, 7, 8, 9, 10, 16, 17, 18, 19, 20, 21, 22, 23, 24, 25, 26, 27,
+];
+
+/// Those that are known at 48 bits; the first six are mapping records.
+const KINDS_48: [u8; 18] = [
     1, 2, 3, 4, 5, 6, 16, 17, 18, 19, 20, 21, 22, 23, 24, 25, 26, 27,
 ];
 
+/// Those that are known at 57 bits, each where its sibling at 48 bits is.
+const KINDS_57: [u8; 18] = [
+    7, 2, 8, 9, 5, 10, 16, 17, 18, 19, 20, 21, 22, 23, 24, 25, 26, 27,
+];
+
+/// Every kind of event that is known at a linear width, the six mapping records first. Any width
+/// but 57 is read as 48.
+pub fn kinds(linear_width: u64) -> [u8; 18] {
+    match linear_width {
+        57 => KINDS_57,
+        _ => KINDS_48,
+    }
+}
+
+/// The kind at a linear width that stands for the same mapping: 1 is 7 at 57 bits, 7 is 1 at 48,
+/// and so on. Kinds 2 and 5 and those of other events are the same at both.
+pub fn sibling(linear_width: u64, kind: u8) -> u8 {
+    let [own, others] = match linear_width {
+        57 => [KINDS_57, KINDS_48],
+        _ => [KINDS_48, KINDS_57],
+    };
+    let place = others.iter().position(|other| *other == kind);
+    place.map_or(kind, |place| own[place])
+}
+
 /// Whether events of this kind are creations, whose bytes are a mapping record.
 pub fn is_mapping_kind(kind: u8) -> bool {
-    (1..=6).contains(&kind)
+    (1..=10).contains(&kind)
+}
+
+/// Whether records of this kind have a linear page of 6 bytes: kinds 7 to 10.
+pub fn is_wide_kind(kind: u8) -> bool {
+    (7..=10).contains(&kind)
 }
 
 /// The bytes of each field behind the kind byte, in order; None for an unknown kind.
@@ -27,6 +62,11 @@ pub const fn sizes(kind: u8) -> Option<&'static [usize]> {
         4 => &[2, 2, 1, 5, 5],
         // VPID, PCID, span, page, structure, EP4TA.
         6 => &[2, 2, 1, 5, 5, 5],
+        // Kinds 1, 3, 4 and 6 with a page of 6 bytes.
+        7 => &[2, 2, 1, 1, 6, 5],
+        8 => &[2, 2, 1, 1, 6, 5, 5],
+        9 => &[2, 2, 1, 6, 5],
+        10 => &[2, 2, 1, 6, 5, 5],
         // INVVPID, INVEPT and INVPCID: type, the descriptor's low half, its high half.
         16 | 17 | 26 => &[8, 8, 8],
         // INVLPG: address.

@@ -9,19 +9,24 @@ mod numbers;
 mod records;
 mod rows;
 
-pub use layouts::{encode, field, is_mapping_kind, length, set_field, sizes, KINDS};
+pub use layouts::{
+    encode, field, is_mapping_kind, is_wide_kind, kinds, length, set_field, sibling, sizes, KINDS,
+};
 pub use numbers::{fields, hex, number, put};
 pub use records::Record;
 pub use rows::{read_row, write_row, ROW};
 
 /// The longest table, in bytes.
-pub const TABLE_LIMIT: usize = 45_056;
+pub const TABLE_LIMIT: usize = 47_104;
 
 /// The longest log that the replay program reads, in bytes.
 pub const LOG_LIMIT: usize = 65_536;
 
-/// Page numbers are below this: 2^36.
+/// Pages of guest-physical addresses, and of linear ones of 48 bits, are below this: 2^36.
 pub const PAGES: u64 = 1 << 36;
+
+/// Pages of linear addresses of 57 bits are below this: 2^45.
+pub const WIDE_PAGES: u64 = 1 << 45;
 
 /// The bits of IA32_VMX_EPT_VPID_CAP that document 01 reads. The replay program has them all.
 pub const CAPABILITY_BITS: [u32; 12] = [6, 8, 14, 20, 21, 25, 26, 32, 40, 41, 42, 43];
@@ -31,6 +36,12 @@ pub const PROGRAM_CAPABILITY: u64 = all_of(&CAPABILITY_BITS);
 
 /// The replay program's physical width N.
 pub const PROGRAM_WIDTH: u64 = 52;
+
+/// The replay program's linear width.
+pub const PROGRAM_LINEAR_WIDTH: u64 = 48;
+
+/// The linear widths that a context may have (document 02, Ask 12).
+pub const LINEAR_WIDTHS: [u64; 2] = [48, 57];
 
 /// The number that has these bits.
 const fn all_of(bits: &[u32]) -> u64 {
@@ -43,7 +54,9 @@ const fn all_of(bits: &[u32]) -> u64 {
     number
 }
 
-/// The canonical address with these bits 47 to 0: bits 63 to 48 are like bit 47.
-pub fn canonical(address: u64) -> u64 {
-    (((address << 16) as i64) >> 16) as u64
+/// The canonical address with these bits 47 to 0 (56 to 0 at linear width 57): those above are like
+/// the highest of them. Any width but 57 is read as 48.
+pub fn canonical(linear_width: u64, address: u64) -> u64 {
+    let above = if linear_width == 57 { 7 } else { 16 };
+    (((address << above) as i64) >> above) as u64
 }

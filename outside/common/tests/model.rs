@@ -1,11 +1,12 @@
 //! The numbers and the layouts here are those of the model, which has its own.
 
 use common::{
-    canonical, encode, field, hex, is_mapping_kind, length, number, put, read_row, set_field,
-    write_row, Record, CAPABILITY_BITS, KINDS, ROW,
+    canonical, encode, field, hex, is_mapping_kind, is_wide_kind, kinds, length, number, put,
+    read_row, set_field, sibling, write_row, Record, CAPABILITY_BITS, KINDS, LINEAR_WIDTHS, ROW,
 };
 use model::event::Event;
-use model::mapping::Mapping;
+use model::mapping::{has_kind, Mapping};
+use model::{Context, LinearWidth};
 
 #[test]
 fn the_limits_and_the_programs_numbers() {
@@ -13,40 +14,83 @@ fn the_limits_and_the_programs_numbers() {
     assert_eq!(common::LOG_LIMIT, model::LOG_LIMIT);
     assert_eq!(common::PROGRAM_CAPABILITY, model::PROGRAM_CAPABILITY);
     assert_eq!(common::PROGRAM_WIDTH, model::PROGRAM_WIDTH);
+    assert_eq!(common::PROGRAM_LINEAR_WIDTH, model::PROGRAM_LINEAR_WIDTH);
     let ones = model::PROGRAM_CAPABILITY.count_ones();
     assert_eq!(CAPABILITY_BITS.len(), ones as usize);
 }
 
 #[test]
 fn the_lengths_of_all_kinds() {
+    let both = LINEAR_WIDTHS.map(LinearWidth::of);
     for kind in 0..=255 {
-        assert_eq!(length(kind), model::event::length(kind), "kind {kind}");
-        let mapping = model::mapping::length(kind).is_some();
+        let lengths = both.map(|width| model::event::length(width, kind));
+        assert_eq!(length(kind), lengths[0].or(lengths[1]), "kind {kind}");
+        let mapping = both.iter().any(|width| has_kind(*width, kind));
         assert_eq!(is_mapping_kind(kind), mapping, "kind {kind}");
         assert_eq!(KINDS.contains(&kind), length(kind).is_some(), "kind {kind}");
     }
 }
 
 #[test]
+fn the_kinds_of_each_width() {
+    for number in [0, 48, 49, 56, 57, 58, (1 << 32) + 57, u64::MAX] {
+        let width = LinearWidth::of(number);
+        for kind in 0..=255 {
+            let known = model::event::length(width, kind).is_some();
+            assert_eq!(kinds(number).contains(&kind), known, "kind {kind}");
+            // What is known at both stays, and the others change places.
+            let own = sibling(number, kind);
+            assert_eq!(own == kind, known || length(kind).is_none(), "kind {kind}");
+            assert_eq!(
+                kinds(number).contains(&own),
+                length(kind).is_some(),
+                "kind {kind}"
+            );
+        }
+    }
+    let siblings: Vec<u8> = (1..=10).map(|kind| sibling(57, kind)).collect();
+    assert_eq!(siblings, [7, 2, 8, 9, 5, 10, 7, 8, 9, 10]);
+    let siblings: Vec<u8> = (1..=10).map(|kind| sibling(48, kind)).collect();
+    assert_eq!(siblings, [1, 2, 3, 4, 5, 6, 1, 3, 4, 6]);
+}
+
+#[test]
+fn the_widths_of_a_context() {
+    for linear_width in 0..100 {
+        let context = Context {
+            linear_width,
+            ..Context::program()
+        };
+        assert_eq!(LINEAR_WIDTHS.contains(&linear_width), context.in_range());
+    }
+}
+
+#[test]
 fn records() {
-    for kind in 1..=6 {
+    for kind in 1..=10 {
+        let width = LinearWidth::of(if is_wide_kind(kind) { 57 } else { 48 });
         let record = Record {
             kind,
             vpid: 0x0105,
             pcid: 0x203,
             global: 1,
             span: 1,
-            page: 0x8_1234_5600,
+            page: if is_wide_kind(kind) {
+                0x1008_1234_5600
+            } else {
+                0x8_1234_5600
+            },
             frame: 0xAB_CDEF_0123,
             ep4ta: 0x76_5432_10FE,
         };
-        let read = Mapping::decode(&record.bytes()).expect("a valid record");
-        let (linear, physical) = (kind != 2 && kind != 5, kind != 1 && kind != 4);
+        let read = Mapping::decode(width, &record.bytes()).expect("a valid record");
+        let linear = kind != 2 && kind != 5;
+        let physical = ![1, 4, 7, 9].contains(&kind);
         let due = Mapping {
             kind: kind.into(),
             vpid: linear.then_some(record.vpid),
             pcid: linear.then_some(record.pcid),
-            global: kind == 1 || kind == 3,
+            global: [1, 3, 7, 8].contains(&kind),
             span: record.span,
             page: record.page,
             frame: record.frame,
@@ -102,7 +146,9 @@ fn events() {
         ),
         (encode(27, &[0x203]), Event::MovToCr3 { pcid: 0x203 }),
     ] {
-        assert_eq!(Event::decode(&bytes), Some(due));
+        for width in LINEAR_WIDTHS.map(LinearWidth::of) {
+            assert_eq!(Event::decode(width, &bytes), Some(due));
+        }
     }
 }
 
@@ -115,7 +161,7 @@ fn fields_of_an_event() {
     assert_eq!(field(&entry[..4], 1), Some(5));
     assert_eq!(field(&entry[..3], 1), None);
     assert_eq!(field(&[], 0), None);
-    assert_eq!(field(&[7, 0], 0), None);
+    assert_eq!(field(&[11, 0], 0), None);
     // Cut to two bytes.
     set_field(&mut entry, 4, 0x1_0002);
     assert_eq!(entry, encode(20, &[1, 5, 0, 0x1E, 2, 3]));
@@ -131,18 +177,22 @@ fn numbers_there_and_back() {
     assert_eq!(number(&[]), 0);
     assert_eq!(number(&[0xFF; 8]), u64::MAX);
     let mut row = [0xA5; ROW];
-    write_row(&mut row, [12, 0, 45_056]);
-    assert_eq!(read_row(&row), [12, 0, 45_056]);
+    write_row(&mut row, [12, 0, 47_104]);
+    assert_eq!(read_row(&row), [12, 0, 47_104]);
 }
 
 #[test]
 fn canonical_addresses() {
-    for (address, due) in [
-        (0x7FFF_FFFF_F000, 0x7FFF_FFFF_F000),
-        (0x8000_0000_0000, 0xFFFF_8000_0000_0000),
-        (0xFFFF_0000_0000_0001, 1),
+    for (linear_width, address, due) in [
+        (48, 0x7FFF_FFFF_F000, 0x7FFF_FFFF_F000),
+        (48, 0x8000_0000_0000, 0xFFFF_8000_0000_0000),
+        (48, 0xFFFF_0000_0000_0001, 1),
+        (57, 0x8000_0000_0000, 0x8000_0000_0000),
+        (57, 0x00FF_FFFF_FFFF_F000, 0x00FF_FFFF_FFFF_F000),
+        (57, 0x0100_0000_0000_0000, 0xFF00_0000_0000_0000),
+        (57, 0xFE00_0000_0000_0001, 1),
     ] {
-        assert_eq!(canonical(address), due);
-        assert!(model::event::canonical(due));
+        assert_eq!(canonical(linear_width, address), due);
+        assert!(LinearWidth::of(linear_width).canonical(due));
     }
 }

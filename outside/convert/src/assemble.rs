@@ -4,6 +4,10 @@ use crate::forms::{Field, Form, Rule};
 use common::put;
 use std::fmt;
 
+/// A text does not say its linear width, so an address is fine that is canonical
+/// at either: all that are so at 48 bits are so at 57.
+const LINEAR_WIDTH: u64 = 57;
+
 /// What some editors write before a text in UTF-8.
 const BYTE_ORDER_MARK: &[u8] = b"\xEF\xBB\xBF";
 
@@ -105,9 +109,11 @@ fn assemble_event<'a>(
                 let word = quoted(&format!("{}={value}", field.name));
                 let shown = |reason| format!("{word}: {reason}");
                 let number = parse(value).map_err(shown)?;
-                field.check(number, before).map_err(|reason| {
-                    shown(format!("{reason} (raw can write what is out of range)"))
-                })?;
+                field
+                    .check(LINEAR_WIDTH, number, before)
+                    .map_err(|reason| {
+                        shown(format!("{reason} (raw can write what is out of range)"))
+                    })?;
                 if field.optional {
                     event.push(1);
                 }

@@ -1,14 +1,15 @@
 //! A log to its text.
 
 use crate::forms::{Form, Rule};
-use common::{hex, number, LOG_LIMIT};
+use common::{hex, number, LINEAR_WIDTHS, LOG_LIMIT};
 use std::fmt::Write;
 
 /// The bytes on one `raw` line, where a log is raw to its end.
 const RAW_LINE: usize = 32;
 
-/// The text of a log; any bytes have one.
-pub fn disassemble(log: &[u8]) -> String {
+/// The text of a log of a linear width, 48 or 57; any bytes have one. Kinds of
+/// the other width are unknown.
+pub fn disassemble(linear_width: u64, log: &[u8]) -> String {
     let mut text = format!("# {} bytes\n", log.len());
     if log.len() > LOG_LIMIT {
         text.push_str("# longer than the replay program reads: it prints only `too long`\n");
@@ -17,13 +18,13 @@ pub fn disassemble(log: &[u8]) -> String {
     let mut number = 1;
     while let Some(kind) = log.get(at) {
         let place = format!("event {number} at byte {at}");
-        let form = Form::of_kind(*kind);
+        let form = Form::of_kind(linear_width, *kind);
         let event = form.and_then(|form| log.get(at..at + form.length()));
         let (Some(form), Some(event)) = (form, event) else {
-            write_rest(&mut text, &log[at..], form, &place);
+            write_rest(&mut text, linear_width, &log[at..], &place);
             break;
         };
-        match disassemble_event(form, event) {
+        match disassemble_event(linear_width, form, event) {
             Ok(line) => write_line(&mut text, &line, &place),
             Err(reason) => {
                 let comment = format!("{place}: {}, but {reason}", form.name);
@@ -36,17 +37,34 @@ pub fn disassemble(log: &[u8]) -> String {
     text
 }
 
-/// What is left from an unknown kind or a cut record on.
-fn write_rest(text: &mut String, rest: &[u8], form: Option<&Form>, place: &str) {
-    let reason = match form {
-        None => format!("unknown kind {:#x}", rest[0]),
-        Some(form) => format!(
-            "{} cut to {} of {} bytes",
-            form.name,
-            rest.len(),
-            form.length()
-        ),
+/// Why no whole, valid event of a linear width starts at the front of some
+/// bytes, in the names of the text form; None where one does, or where there is
+/// no byte.
+pub fn fault(linear_width: u64, bytes: &[u8]) -> Option<String> {
+    let kind = *bytes.first()?;
+    let Some(form) = Form::of_kind(linear_width, kind) else {
+        return Some(unknown(kind));
     };
+    let Some(event) = bytes.get(..form.length()) else {
+        let (length, name) = (form.length(), form.name);
+        return Some(format!("{name} cut to {} of {length} bytes", bytes.len()));
+    };
+    let reason = disassemble_event(linear_width, form, event).err()?;
+    Some(format!("{}, but {reason}", form.name))
+}
+
+/// A kind that is unknown at a linear width: of the other, or of neither.
+fn unknown(kind: u8) -> String {
+    let of = |width| Form::of_kind(width, kind).is_some();
+    match LINEAR_WIDTHS.into_iter().find(|width| of(*width)) {
+        Some(width) => format!("unknown kind {kind:#x}, one of {width}-bit linear addresses"),
+        None => format!("unknown kind {kind:#x}"),
+    }
+}
+
+/// What is left from an unknown kind or a cut record on.
+fn write_rest(text: &mut String, linear_width: u64, rest: &[u8], place: &str) {
+    let reason = fault(linear_width, rest).unwrap_or_default();
     let mut comment = format!("{place}: {reason}, a replay ends here");
     for part in rest.chunks(RAW_LINE) {
         write_line(text, &raw(part), &comment);
@@ -68,7 +86,7 @@ fn raw(bytes: &[u8]) -> String {
 }
 
 /// The line of a whole event, or why the names cannot say it.
-fn disassemble_event(form: &Form, event: &[u8]) -> Result<String, String> {
+fn disassemble_event(linear_width: u64, form: &Form, event: &[u8]) -> Result<String, String> {
     let mut line = form.name.to_string();
     let mut rest = &event[1..];
     let mut before = 0;
@@ -85,7 +103,7 @@ fn disassemble_event(form: &Form, event: &[u8]) -> Result<String, String> {
                 let _ = write!(line, " {}=off", field.name);
             }
             1 => {
-                field.check(number, before)?;
+                field.check(linear_width, number, before)?;
                 if field.rule != Rule::Zero {
                     let _ = write!(line, " {}={number:#x}", field.name);
                 }

@@ -1,7 +1,7 @@
-//! The events of document 01 and of Ask 5 of document 02 as names and fields,
-//! in the order of their bytes.
+//! The events of document 01 and of Asks 5 and 12 of document 02 as names and
+//! fields, in the order of their bytes.
 
-use common::{canonical, PAGES};
+use common::{canonical, kinds, PAGES, WIDE_PAGES};
 use std::fmt::Write;
 
 /// An event: its kind byte, its name and its fields.
@@ -28,9 +28,9 @@ pub enum Rule {
     Any,
     /// From the first number to the second.
     Between(u64, u64),
-    /// Below 2^36, and a multiple of 2^(9s) with s the span before it.
-    Page,
-    /// A canonical address.
+    /// Below this number, and a multiple of 2^(9s) with s the span before it.
+    Page(u64),
+    /// An address that is canonical at the log's linear width.
     Canonical,
     /// Zero; such a field is not written at all.
     Zero,
@@ -60,15 +60,17 @@ const CPL: Field = field("cpl", 1, Rule::Between(0, 3));
 const GLOBAL: Field = field("global", 1, Rule::Between(0, 1));
 const SPAN: Field = field("span", 1, Rule::Between(0, 2));
 const STRUCTURE_SPAN: Field = field("span", 1, Rule::Between(1, 3));
-const PAGE: Field = field("page", 5, Rule::Page);
+const WIDE_STRUCTURE_SPAN: Field = field("span", 1, Rule::Between(1, 4));
+const PAGE: Field = field("page", 5, Rule::Page(PAGES));
+const WIDE_PAGE: Field = field("page", 6, Rule::Page(WIDE_PAGES));
 const FRAME: Field = field("frame", 5, Rule::Any);
 const STRUCTURE: Field = field("structure", 5, Rule::Any);
 const EP4TA: Field = field("ep4ta", 5, Rule::Any);
 const TYPE: Field = field("type", 8, Rule::Any);
 const ADDRESS: Field = field("address", 8, Rule::Any);
 
-/// Every kind of event.
-pub const FORMS: [Form; 18] = [
+/// Every kind of event, of either linear width.
+pub const FORMS: [Form; 22] = [
     Form {
         kind: 1,
         name: "linear",
@@ -98,6 +100,26 @@ pub const FORMS: [Form; 18] = [
         kind: 6,
         name: "combined-structure",
         fields: &[VPID, PCID, STRUCTURE_SPAN, PAGE, STRUCTURE, EP4TA],
+    },
+    Form {
+        kind: 7,
+        name: "linear-57",
+        fields: &[VPID, PCID, GLOBAL, SPAN, WIDE_PAGE, FRAME],
+    },
+    Form {
+        kind: 8,
+        name: "combined-57",
+        fields: &[VPID, PCID, GLOBAL, SPAN, WIDE_PAGE, FRAME, EP4TA],
+    },
+    Form {
+        kind: 9,
+        name: "linear-structure-57",
+        fields: &[VPID, PCID, WIDE_STRUCTURE_SPAN, WIDE_PAGE, STRUCTURE],
+    },
+    Form {
+        kind: 10,
+        name: "combined-structure-57",
+        fields: &[VPID, PCID, WIDE_STRUCTURE_SPAN, WIDE_PAGE, STRUCTURE, EP4TA],
     },
     Form {
         kind: 16,
@@ -184,8 +206,10 @@ pub const FORMS: [Form; 18] = [
 ];
 
 impl Form {
-    pub fn of_kind(kind: u8) -> Option<&'static Form> {
-        FORMS.iter().find(|form| form.kind == kind)
+    /// None for a kind that is unknown at this linear width.
+    pub fn of_kind(linear_width: u64, kind: u8) -> Option<&'static Form> {
+        let known = kinds(linear_width).contains(&kind);
+        FORMS.iter().find(|form| known && form.kind == kind)
     }
 
     pub fn of_name(name: &str) -> Option<&'static Form> {
@@ -209,9 +233,9 @@ impl Form {
 }
 
 impl Field {
-    /// Whether the field may hold a number; if not, why. `before` is the
-    /// number of the field before it.
-    pub fn check(&self, number: u64, before: u64) -> Result<(), String> {
+    /// Whether the field may hold a number in a log of this linear width; if
+    /// not, why. `before` is the number of the field before it.
+    pub fn check(&self, linear_width: u64, number: u64, before: u64) -> Result<(), String> {
         let name = self.name;
         match self.rule {
             Rule::Any => self.at_most(number, u64::MAX >> (64 - 8 * self.bytes)),
@@ -221,8 +245,8 @@ impl Field {
                 }
                 self.at_most(number, most)
             }
-            Rule::Page => {
-                self.at_most(number, PAGES - 1)?;
+            Rule::Page(limit) => {
+                self.at_most(number, limit - 1)?;
                 let pages = 1 << (9 * before);
                 if !number.is_multiple_of(pages) {
                     return Err(format!(
@@ -232,7 +256,7 @@ impl Field {
                 Ok(())
             }
             Rule::Canonical => {
-                if number != canonical(number) {
+                if number != canonical(linear_width, number) {
                     return Err(format!("{name} is a canonical address"));
                 }
                 Ok(())

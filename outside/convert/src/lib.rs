@@ -18,8 +18,14 @@
 //! enabled `ept` is the whole EPTP), and `linear` of an EPT violation. Its
 //! flag and its bytes are zero.
 //!
-//! The names make only events that are valid by documents 01 and 02: a value
-//! out of its range, such as PCID 4,096, is an error that names the limit.
+//! A log is of one linear width, 48 or 57 (document 02, Ask 12), and the text
+//! does not say which. Names that end in `-57` are the kinds of the second, and
+//! are known like all others; a replay at the other width ends there.
+//!
+//! The names make only events that are valid by documents 01 and 02 at one of
+//! the widths: a value out of its range, such as PCID 4,096, is an error that
+//! names the limit. An EPT violation's linear address may be canonical at 57 bits
+//! alone; at 48 that is a bad field.
 //! Operands that the processor itself refuses, such as INVVPID type 4, are
 //! valid events. All else is written as bytes, pairs of hexadecimal digits
 //! without `0x`:
@@ -29,14 +35,15 @@
 //! ```
 //!
 //! A `raw` line adds its bytes to the log as they are, and need not be one
-//! event. [`disassemble`] uses it for what the names cannot say exactly: a
-//! bad field, reserved descriptor bits, a disabled field that is not zero,
-//! and all bytes from an unknown kind or a cut record on, where a replay
-//! ends. So [`assemble`] gives back the same log, whatever its bytes are.
+//! event. [`disassemble`], which is told the linear width, uses it for what the
+//! names cannot say exactly: a bad field, reserved descriptor bits, a disabled
+//! field that is not zero, and all bytes from an unknown kind or a cut record
+//! on, where a replay ends; kinds of the other width are unknown. So
+//! [`assemble`] gives back the same log, whatever its bytes are.
 
 mod assemble;
 mod disassemble;
 pub mod forms;
 
 pub use assemble::{assemble, Error};
-pub use disassemble::disassemble;
+pub use disassemble::{disassemble, fault};

@@ -1,18 +1,21 @@
-//! `convert assemble [FILE]` and `convert disassemble [FILE]`, to standard output.
+//! `convert assemble [FILE]` and `convert disassemble [--linear-width 57] [FILE]`, to
+//! standard output.
 //!
 //! On an error nothing is written to standard output, and the reason goes to
 //! standard error. Exit status 1 for a bad text, a file that cannot be read
 //! and an output that cannot be written; 2 for wrong words.
 
-use common::LOG_LIMIT;
+use common::{LINEAR_WIDTHS, LOG_LIMIT, PROGRAM_LINEAR_WIDTH};
 use std::ffi::{OsStr, OsString};
 use std::fs;
 use std::io::{self, Read, Write};
 use std::process::ExitCode;
 
 const USAGE: &str = "\
-usage: convert assemble [FILE] > LOG       the text of a log to its bytes
-       convert disassemble [FILE] > TEXT   the bytes of a log to its text
+usage: convert assemble [FILE] > LOG
+           the text of a log to its bytes
+       convert disassemble [--linear-width 57] [FILE] > TEXT
+           the bytes of a log to its text; the linear width is 48 if not given
 Where FILE is - or not given, standard input is read; -- goes before a FILE
 that starts with -.
 
@@ -47,8 +50,9 @@ fn run() -> Result<(), Failure> {
     match command.to_str() {
         Some("assemble") => assemble(file(rest)?),
         Some("disassemble") => {
+            let (linear_width, rest) = linear_width(rest)?;
             let log = input(file(rest)?).map_err(failed)?;
-            output(convert::disassemble(&log).as_bytes()).map_err(failed)
+            output(convert::disassemble(linear_width, &log).as_bytes()).map_err(failed)
         }
         Some("help" | "--help" | "-h") if rest.is_empty() => {
             output(usage().as_bytes()).map_err(failed)
@@ -63,6 +67,29 @@ fn wrong(why: &str) -> Failure {
 
 fn usage() -> String {
     format!("{USAGE}{}", convert::forms::names())
+}
+
+/// The linear width that the first words name, 48 if they name none, and the
+/// words behind them.
+fn linear_width(words: &[OsString]) -> Result<(u64, &[OsString]), Failure> {
+    let [option, rest @ ..] = words else {
+        return Ok((PROGRAM_LINEAR_WIDTH, words));
+    };
+    if option != "--linear-width" {
+        return Ok((PROGRAM_LINEAR_WIDTH, words));
+    }
+    let Some((word, rest)) = rest.split_first() else {
+        return Err(wrong("--linear-width takes 48 or 57"));
+    };
+    let width = LINEAR_WIDTHS
+        .into_iter()
+        .find(|width| *word == *width.to_string());
+    match width {
+        Some(width) => Ok((width, rest)),
+        None => Err(wrong(&format!(
+            "--linear-width takes 48 or 57, not {word:?}"
+        ))),
+    }
 }
 
 /// The file that the words name; None for standard input.

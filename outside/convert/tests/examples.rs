@@ -41,7 +41,7 @@ fn each_text_is_its_log() {
     for name in names("txt") {
         let log = convert::assemble(&read(&name, "txt"));
         assert_eq!(log, Ok(read(&name, "log")), "{name}");
-        let again = convert::disassemble(&read(&name, "log"));
+        let again = convert::disassemble(48, &read(&name, "log"));
         assert_eq!(convert::assemble(again.as_bytes()), log, "{name}");
     }
 }

@@ -34,7 +34,7 @@ fn both_ways() {
         "# 5 bytes\n\
          vmxon  # event 1 at byte 0\n\
          exit pcid=0x1  # event 2 at byte 1\n\
-         raw 09  # event 3 at byte 4: unknown kind 0x9, a replay ends here\n"
+         raw 09  # event 3 at byte 4: unknown kind 0x9, one of 57-bit linear addresses, a replay ends here\n"
     );
 }
 
@@ -55,10 +55,53 @@ fn a_long_log_is_noted() {
     assert!(said(&output).contains("65537"));
 }
 
+/// Kind 9 is cut at 57 bits, and kind 4 is unknown.
+#[test]
+fn a_linear_width() {
+    let text = |words: &[&str], log: &[u8]| {
+        let output = run(words, log, Stdio::piped());
+        assert!(output.status.success(), "{words:?}");
+        String::from_utf8_lossy(&output.stdout).into_owned()
+    };
+    let cut = "# 1 bytes\n\
+        raw 09  # event 1 at byte 0: linear-structure-57 cut to 1 of 17 bytes, a replay ends here\n";
+    let unknown = |kind: u8, width: u64| {
+        format!(
+            "# 1 bytes\nraw 0{kind}  # event 1 at byte 0: unknown kind 0x{kind}, \
+             one of {width}-bit linear addresses, a replay ends here\n"
+        )
+    };
+    let wide = ["disassemble", "--linear-width", "57"];
+    assert_eq!(text(&wide, &[9]), cut);
+    assert_eq!(text(&wide, &[4]), unknown(4, 48));
+    for more in [&["-"][..], &["--"], &["--", "-"]] {
+        assert_eq!(text(&[&wide, more].concat(), &[9]), cut);
+    }
+    for words in [
+        &["disassemble"][..],
+        &["disassemble", "--linear-width", "48"],
+    ] {
+        assert_eq!(text(words, &[9]), unknown(9, 57));
+    }
+}
+
 #[test]
 fn words_that_are_not_taken() {
     for words in [
         &[][..],
+        &["disassemble", "--linear-width"],
+        &["disassemble", "--linear-width", "56"],
+        &["disassemble", "--linear-width", "0x39"],
+        &[
+            "disassemble",
+            "--linear-width",
+            "57",
+            "--linear-width",
+            "57",
+        ],
+        &["disassemble", "--linear-width=57"],
+        &["disassemble", "-", "--linear-width", "57"],
+        &["assemble", "--linear-width", "57"],
         &["assembel"],
         &["assemble", "-x"],
         &["assemble", "--", "a", "b"],

@@ -1,9 +1,11 @@
 //! Text to log and back, for good texts, bad texts and any bytes.
 
-use common::{hex, KINDS};
-use convert::{assemble, disassemble, forms::FORMS};
+use common::{hex, kinds, KINDS, LINEAR_WIDTHS};
+use convert::forms::{Form, FORMS};
+use convert::{assemble, disassemble};
 use generate::{events, log, near_events, Rng};
 use model::event::Event;
+use model::LinearWidth;
 
 const SEED: u64 = 5;
 
@@ -31,6 +33,16 @@ invpcid type=0x3 pcid=0xfff address=0xffff800000000000
 mov-to-cr3 pcid=0xfff
 ";
 
+/// The names of 57-bit logs.
+const ALL_WIDE_KINDS: &str = "\
+linear-57 vpid=0x5 pcid=0x1 global=0x0 span=0x0 page=0x100000012345 frame=0xabcde
+combined-57 vpid=0x5 pcid=0x1 global=0x1 span=0x2 page=0x1fffffc40000 frame=0xabcde ep4ta=0xffffffffff
+linear-structure-57 vpid=0xffff pcid=0xfff span=0x4 page=0x1ff000000000 structure=0x1
+combined-structure-57 vpid=0x0 pcid=0x0 span=0x1 page=0x200 structure=0x3 ep4ta=0x1
+ept-violation gpa=0xffffffffffff linear=0xff00000000000000
+guest-physical ep4ta=0x1234567 span=0x0 page=0x10 frame=0x20
+";
+
 /// The text of a log without its comments.
 fn bare(text: &str) -> String {
     let lines = text.lines().map(|line| line.split('#').next().unwrap());
@@ -38,9 +50,16 @@ fn bare(text: &str) -> String {
     lines.map(|line| format!("{line}\n")).collect()
 }
 
-/// Disassembles, and checks that it assembles to the same log.
+/// Disassembles, and checks that it assembles to the same log, at both linear
+/// widths. Hands back the text at 48 bits.
 fn there_and_back(log: &[u8]) -> String {
-    let text = disassemble(log);
+    at_width(57, log);
+    at_width(48, log)
+}
+
+/// The same at one linear width.
+fn at_width(linear_width: u64, log: &[u8]) -> String {
+    let text = disassemble(linear_width, log);
     let again = assemble(text.as_bytes()).expect("a disassembled text is good");
     assert_eq!(again, log, "{}\n{text}", hex(log));
     text
@@ -50,9 +69,60 @@ fn there_and_back(log: &[u8]) -> String {
 fn names_go_both_ways() {
     let log = assemble(ALL_KINDS.as_bytes()).unwrap();
     assert_eq!(bare(&there_and_back(&log)), ALL_KINDS);
+    let log = assemble(ALL_WIDE_KINDS.as_bytes()).unwrap();
+    assert_eq!(bare(&at_width(57, &log)), ALL_WIDE_KINDS);
     for form in &FORMS {
-        assert!(ALL_KINDS.lines().any(|line| line.starts_with(form.name)));
+        let mut lines = ALL_KINDS.lines().chain(ALL_WIDE_KINDS.lines());
+        let name = format!("{} ", form.name);
+        assert!(lines.any(|line| format!("{line} ").starts_with(&name)));
     }
+}
+
+#[test]
+fn the_papers_bytes_at_57_bits() {
+    let log = assemble(ALL_WIDE_KINDS.as_bytes()).unwrap();
+    let expected = "07 05 00 01 00 00 00 45 23 01 00 00 10 de bc 0a 00 00 \
+         08 05 00 01 00 01 02 00 00 c4 ff ff 1f de bc 0a 00 00 ff ff ff ff ff \
+         09 ff ff ff 0f 04 00 00 00 00 f0 1f 01 00 00 00 00 \
+         0a 00 00 00 00 01 00 02 00 00 00 00 03 00 00 00 00 01 00 00 00 00";
+    assert_eq!(hex(&log[..80]), expected);
+}
+
+/// Kinds of the other width are written as unknown ones.
+#[test]
+fn the_other_width_is_unknown() {
+    for (linear_width, name, kind) in [
+        (48, "linear-57", 7),
+        (48, "combined-structure-57", 10),
+        (57, "linear", 1),
+        (57, "combined-structure", 6),
+    ] {
+        let texts = [ALL_KINDS, ALL_WIDE_KINDS].concat();
+        let mut lines = texts.lines();
+        let line = lines.find(|line| line.starts_with(&format!("{name} ")));
+        let event = assemble(line.expect(name).as_bytes()).unwrap();
+        let log = [&[22], &event[..], &[25]].concat();
+        let text = at_width(linear_width, &log);
+        let rest = hex(&log[1..]);
+        let expected = format!(
+            "vmxon  # event 1 at byte 0\n\
+             raw {rest}  # event 2 at byte 1: unknown kind {kind:#x}, \
+             one of {}-bit linear addresses, a replay ends here\n",
+            105 - linear_width
+        );
+        assert_eq!(text, format!("# {} bytes\n{expected}", log.len()));
+        let own = at_width(105 - linear_width, &log);
+        assert!(own.contains(&format!("\n{name} ")), "{own}");
+        assert!(own.contains("\nreset  # event 3"), "{own}");
+    }
+    // An address that is canonical at 57 bits alone.
+    let log = assemble(b"ept-violation gpa=0x0 linear=0x800000000000").unwrap();
+    assert!(at_width(57, &log).contains("\nept-violation gpa=0x0 linear=0x800000000000 "));
+    let text = at_width(48, &log);
+    assert!(
+        text.ends_with(": ept-violation, but linear is a canonical address\n"),
+        "{text}"
+    );
 }
 
 #[test]
@@ -68,13 +138,15 @@ fn the_papers_bytes() {
 
 #[test]
 fn lengths_agree_with_the_model() {
-    for kind in 0..=255 {
-        let length = FORMS.iter().find(|form| form.kind == kind);
-        assert_eq!(
-            length.map(|form| form.length()),
-            model::event::length(kind),
-            "kind {kind}"
-        );
+    for linear_width in LINEAR_WIDTHS {
+        for kind in 0..=255 {
+            let form = Form::of_kind(linear_width, kind);
+            assert_eq!(
+                form.map(|form| form.length()),
+                model::event::length(LinearWidth::of(linear_width), kind),
+                "kind {kind}"
+            );
+        }
     }
 }
 
@@ -85,7 +157,7 @@ fn comments_blanks_and_order() {
     assert_eq!(hex(&log), "16 18 aa 00 03 16 17 18 ff");
     assert_eq!(assemble(b"").unwrap(), []);
     assert_eq!(assemble(b"#").unwrap(), []);
-    assert_eq!(disassemble(&[]), "# 0 bytes\n");
+    assert_eq!(disassemble(48, &[]), "# 0 bytes\n");
 }
 
 #[test]
@@ -155,8 +227,24 @@ fn errors_name_the_line_and_the_word() {
             "line 1: linear-structure: 'span=0x0': span is at least 0x1 (raw can write what is out of range)",
         ),
         (
-            "ept-violation gpa=0x0 linear=0x800000000000",
-            "line 1: ept-violation: 'linear=0x800000000000': linear is a canonical address (raw can write what is out of range)",
+            "ept-violation gpa=0x0 linear=0x100000000000000",
+            "line 1: ept-violation: 'linear=0x100000000000000': linear is a canonical address (raw can write what is out of range)",
+        ),
+        (
+            "linear vpid=0x0 pcid=0x0 global=0x0 span=0x0 page=0x1000000000 frame=0x0",
+            "line 1: linear: 'page=0x1000000000': page is at most 0xfffffffff (raw can write what is out of range)",
+        ),
+        (
+            "linear-57 vpid=0x0 pcid=0x0 global=0x0 span=0x0 page=0x200000000000 frame=0x0",
+            "line 1: linear-57: 'page=0x200000000000': page is at most 0x1fffffffffff (raw can write what is out of range)",
+        ),
+        (
+            "linear-structure-57 vpid=0x0 pcid=0x0 span=0x5 page=0x0 structure=0x0",
+            "line 1: linear-structure-57: 'span=0x5': span is at most 0x4 (raw can write what is out of range)",
+        ),
+        (
+            "linear-structure-57 vpid=0x0 pcid=0x0 span=0x4 page=0x8000000 structure=0x0",
+            "line 1: linear-structure-57: 'page=0x8000000': page is a multiple of 0x1000000000 with span 0x4 (raw can write what is out of range)",
         ),
         ("raw", "line 1: raw: there are no bytes"),
         ("raw 1", "line 1: raw: '1' has an odd number of digits"),
@@ -251,16 +339,20 @@ fn logs_go_there_and_back() {
     let mut rng = Rng::new(SEED);
     for _ in 0..500 {
         let length = rng.below(2_000);
-        there_and_back(&log(&mut rng, length));
-        there_and_back(&events(&mut rng, 20).concat());
+        for width in LINEAR_WIDTHS {
+            there_and_back(&log(&mut rng, width, length));
+            there_and_back(&events(&mut rng, width, 20).concat());
+        }
     }
 }
 
 #[test]
 fn every_truncation_goes_there_and_back() {
-    let log = assemble(ALL_KINDS.as_bytes()).unwrap();
-    for end in 0..=log.len() {
-        there_and_back(&log[..end]);
+    for text in [ALL_KINDS, ALL_WIDE_KINDS] {
+        let log = assemble(text.as_bytes()).unwrap();
+        for end in 0..=log.len() {
+            there_and_back(&log[..end]);
+        }
     }
 }
 
@@ -273,13 +365,15 @@ fn names_are_for_valid_events_alone() {
     let (mut named, mut raw) = (0, 0);
     for _ in 0..30 {
         let context = generate::context(&mut rng);
+        let width = context.linear_width;
         for kind in KINDS {
             let event = generate::event_of_kind(&mut rng, &context, kind);
             for near in near_events(&event).into_iter().chain([event]) {
-                let text = there_and_back(&near);
+                let text = at_width(width, &near);
                 let by_name = !bare(&text).starts_with("raw");
-                let valid = Event::decode(&near).is_some();
+                let valid = Event::decode(LinearWidth::of(width), &near).is_some();
                 assert_eq!(by_name, valid && !holds_more(&near), "{}", hex(&near));
+                assert!(!by_name || kinds(width).contains(&kind));
                 named += usize::from(by_name);
                 raw += usize::from(!by_name);
             }

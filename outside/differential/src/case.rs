@@ -6,6 +6,8 @@ use crate::replay::ReplayCase;
 use crate::run::RunCase;
 use crate::step::StepCase;
 use crate::tally::Tally;
+use crate::widen::WidenCase;
+use model::LinearWidth;
 use std::fmt;
 use std::time::{Duration, Instant};
 
@@ -17,6 +19,7 @@ pub enum Case {
     Explain(ExplainCase),
     Run(RunCase),
     Replay(ReplayCase),
+    Widen(WidenCase),
 }
 
 /// A case in which the library differs from the model, and in what.
@@ -35,6 +38,7 @@ impl Case {
             Case::Explain(case) => case.check(tally),
             Case::Run(case) => case.check(tally),
             Case::Replay(case) => case.check(tally),
+            Case::Widen(case) => case.check(tally),
         }
     }
 
@@ -57,6 +61,7 @@ impl Case {
             Case::Explain(case) => case.smaller().into_iter().map(Case::Explain).collect(),
             Case::Run(case) => case.smaller().into_iter().map(Case::Run).collect(),
             Case::Replay(case) => case.smaller().into_iter().map(Case::Replay).collect(),
+            Case::Widen(case) => case.smaller().into_iter().map(Case::Widen).collect(),
         }
     }
 }
@@ -69,6 +74,7 @@ impl fmt::Display for Case {
             Case::Explain(case) => case.fmt(f),
             Case::Run(case) => case.fmt(f),
             Case::Replay(case) => case.fmt(f),
+            Case::Widen(case) => case.fmt(f),
         }
     }
 }
@@ -106,9 +112,11 @@ pub fn parts(count: usize) -> Vec<std::ops::Range<usize>> {
     parts
 }
 
-/// Tables with some records taken out; none if it is not a valid table.
-pub fn smaller_tables(table: &[u8]) -> Vec<Vec<u8>> {
-    let records = model::mapping::records(table).unwrap_or_default();
+/// Tables with some records taken out; none if it is not a valid table at this
+/// linear width.
+pub fn smaller_tables(linear_width: u64, table: &[u8]) -> Vec<Vec<u8>> {
+    let width = LinearWidth::of(linear_width);
+    let records = model::mapping::records(width, table).unwrap_or_default();
     let without = |part: std::ops::Range<usize>| {
         let mut left = Vec::new();
         for (number, (place, _)) in records.iter().enumerate() {

@@ -7,6 +7,7 @@ pub fn context_differences(got: &FlatContext, due: &FlatContext) -> Vec<String> 
     let fields = [
         ("capability", got.capability, due.capability),
         ("width", got.width, due.width),
+        ("linear width", got.linear_width, due.linear_width),
         ("PCID", got.pcid, due.pcid),
         ("CPL", got.cpl, due.cpl),
         ("place", got.place, due.place),

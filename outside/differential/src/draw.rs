@@ -6,8 +6,9 @@ use crate::lookup::LookupCase;
 use crate::replay::{starts, ReplayCase};
 use crate::run::{Moment, RunCase};
 use crate::step::StepCase;
+use crate::widen::WidenCase;
 use bridge::FlatContext;
-use common::{LOG_LIMIT, PROGRAM_CAPABILITY, PROGRAM_WIDTH, ROW, TABLE_LIMIT};
+use common::{LINEAR_WIDTHS, LOG_LIMIT, ROW, TABLE_LIMIT};
 use generate::{start, Rng};
 use model::{Context, Place};
 
@@ -101,43 +102,49 @@ pub fn explain(rng: &mut Rng) -> ExplainCase {
 
 /// A run of so many events, with addresses to look up at some of them.
 pub fn run(rng: &mut Rng, count: usize) -> RunCase {
-    let (capability, width) = start(rng);
-    let events = generate::events(rng, count);
-    run_of(rng, capability, width, events, 8)
+    let start = start(rng);
+    let events = generate::events(rng, start.linear_width, count);
+    run_of(rng, &start, events, 8)
+}
+
+/// The program's context after a reset, at either linear width.
+fn program(rng: &mut Rng) -> Context {
+    Context {
+        linear_width: rng.pick(&LINEAR_WIDTHS),
+        ..Context::program()
+    }
 }
 
 /// A run that fills the table to its last byte or nearly, and goes on for
 /// some hundreds of events.
 pub fn filling_run(rng: &mut Rng) -> RunCase {
-    let log = generate::filling_log(rng);
-    let starts = starts(&log);
+    let start = program(rng);
+    let log = generate::filling_log(rng, start.linear_width);
+    let starts = starts(start.linear_width, &log);
     let events = starts.windows(2).map(|ends| log[ends[0]..ends[1]].to_vec());
     let events = events.collect();
-    run_of(rng, PROGRAM_CAPABILITY, PROGRAM_WIDTH, events, 100)
+    run_of(rng, &start, events, 100)
 }
 
-fn run_of(
-    rng: &mut Rng,
-    capability: u64,
-    width: u64,
-    events: Vec<Vec<u8>>,
-    seldom: usize,
-) -> RunCase {
+fn run_of(rng: &mut Rng, start: &Context, events: Vec<Vec<u8>>, seldom: usize) -> RunCase {
     let mut buffers = [Buffer { length: 0, fill: 0 }; 4];
     for lent in &mut buffers {
         let more = rng.pick(&[0, 0, 1, 100]);
         *lent = buffer(rng, TABLE_LIMIT + more);
     }
+    let width = start.linear_width;
     let moments = events.into_iter().map(Some).chain([None]);
+    let moments = moments.map(|event| moment(rng, width, event, seldom));
     RunCase {
-        capability,
-        width,
+        capability: start.capability,
+        width: start.width,
+        linear_width: width,
         buffers,
-        moments: moments.map(|event| moment(rng, event, seldom)).collect(),
+        moments: moments.collect(),
     }
 }
 
-fn moment(rng: &mut Rng, event: Option<Vec<u8>>, seldom: usize) -> Moment {
+fn moment(rng: &mut Rng, linear_width: u64, event: Option<Vec<u8>>, seldom: usize) -> Moment {
     let count = if event.is_none() || rng.one_in(seldom) {
         3
     } else {
@@ -145,7 +152,9 @@ fn moment(rng: &mut Rng, event: Option<Vec<u8>>, seldom: usize) -> Moment {
     };
     Moment {
         removal: rng.number(),
-        addresses: (0..count).map(|_| generate::address(rng)).collect(),
+        addresses: (0..count)
+            .map(|_| generate::address(rng, linear_width))
+            .collect(),
         event,
     }
 }
@@ -154,34 +163,44 @@ fn moment(rng: &mut Rng, event: Option<Vec<u8>>, seldom: usize) -> Moment {
 /// cut or damaged, some random bytes.
 pub fn replay(rng: &mut Rng, most: usize) -> ReplayCase {
     let length = rng.below(most + 1);
+    let start = start(rng);
+    // Now and then of the other width.
+    let other = rng.pick(&LINEAR_WIDTHS);
+    let width = if rng.one_in(16) {
+        other
+    } else {
+        start.linear_width
+    };
     let log = match rng.below(10) {
         0 => rng.bytes(length % 100),
         // Damaged ones too.
-        1 => generate::events(rng, length / 20).concat(),
-        _ => generate::log(rng, length),
+        1 => generate::events(rng, width, length / 20).concat(),
+        _ => generate::log(rng, width, length),
     };
-    let (capability, width) = start(rng);
-    replay_of(rng, capability, width, log)
+    replay_of(rng, &start, log)
 }
 
 /// A replay that fills the table; now and then longer than the program reads.
 pub fn filling_replay(rng: &mut Rng) -> ReplayCase {
-    let mut log = generate::filling_log(rng);
+    let start = program(rng);
+    let width = start.linear_width;
+    let mut log = generate::filling_log(rng, width);
     if rng.one_in(3) {
         let more = LOG_LIMIT + 1 - log.len() + rng.below(500);
-        let more = generate::log(rng, more);
+        let more = generate::log(rng, width, more);
         log.extend_from_slice(&more);
     }
-    replay_of(rng, PROGRAM_CAPABILITY, PROGRAM_WIDTH, log)
+    replay_of(rng, &start, log)
 }
 
-fn replay_of(rng: &mut Rng, capability: u64, width: u64, log: Vec<u8>) -> ReplayCase {
+fn replay_of(rng: &mut Rng, start: &Context, log: Vec<u8>) -> ReplayCase {
     let first = table_room(rng);
     let second = table_room(rng);
-    let rows = rows_room(rng, &log);
+    let rows = rows_room(rng, start.linear_width, &log);
     ReplayCase {
-        capability,
-        width,
+        capability: start.capability,
+        width: start.width,
+        linear_width: start.linear_width,
         first: buffer(rng, first),
         second: buffer(rng, second),
         rows: buffer(rng, rows),
@@ -203,8 +222,8 @@ fn table_room(rng: &mut Rng) -> usize {
 }
 
 /// The length of a buffer for rows: none, short, exact, more.
-fn rows_room(rng: &mut Rng, log: &[u8]) -> usize {
-    let exact = ROW * (starts(log).len() - 1);
+fn rows_room(rng: &mut Rng, linear_width: u64, log: &[u8]) -> usize {
+    let exact = ROW * (starts(linear_width, log).len() - 1);
     match rng.below(12) {
         0 => 0,
         1 => rng.below(2 * ROW),
@@ -214,5 +233,14 @@ fn rows_room(rng: &mut Rng, log: &[u8]) -> usize {
         5 => exact + ROW,
         6 => exact + 1_000,
         _ => exact,
+    }
+}
+
+/// A conversion, mostly of a 48-bit table.
+pub fn widen(rng: &mut Rng) -> WidenCase {
+    let case = generate::widening(rng);
+    WidenCase {
+        table: case.table,
+        new: buffer(rng, case.new.len()),
     }
 }

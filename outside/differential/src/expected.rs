@@ -2,7 +2,7 @@
 
 use bridge::{FlatContext, FlatReason, FlatReplayed, FlatStep, Part};
 use common::{write_row, ROW};
-use model::{Address, Context, Reason};
+use model::{Address, Context, LinearWidth, Reason};
 use std::mem::swap;
 use std::ops::Range;
 
@@ -68,6 +68,7 @@ pub fn explain(context: &FlatContext, record: &[u8], event: &[u8]) -> FlatReason
 pub fn replay(
     capability: u64,
     width: u64,
+    linear_width: u64,
     log: &[u8],
     first: &mut [u8],
     second: &mut [u8],
@@ -76,7 +77,7 @@ pub fn replay(
     let (mut old, mut new) = (first, second);
     let mut rows = rows.chunks_exact_mut(ROW);
     let mut end = FlatReplayed {
-        context: bridge::flat(&Context::after_reset(capability, width)),
+        context: bridge::flat(&Context::after_reset(capability, width, linear_width)),
         length: 0,
         first: 1,
         count: 0,
@@ -86,7 +87,7 @@ pub fn replay(
         let Some(row) = rows.next() else {
             break;
         };
-        let known = model::replay::first_event(rest);
+        let known = model::replay::first_event(LinearWidth::of(linear_width), rest);
         let event = known.unwrap_or(rest);
         let step = step(&end.context, &old[..end.length], event, new);
         if step.answer == 0 {

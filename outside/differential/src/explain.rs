@@ -43,9 +43,10 @@ impl ExplainCase {
         if record != self.record || event != self.event {
             return Err("the record or the event was written to".to_string());
         }
-        tally.reasons[due.reason as usize] += 1;
-        tally.refusals[due.answer as usize] += 1;
-        tally.reason_rules[due.rule as usize] += 1;
+        let counts = tally.at(self.context.linear_width);
+        counts.reasons[due.reason as usize] += 1;
+        counts.refusals[due.answer as usize] += 1;
+        counts.reason_rules[due.rule as usize] += 1;
         Ok(())
     }
 
@@ -54,7 +55,8 @@ impl ExplainCase {
             record,
             ..self.clone()
         };
-        smaller_tables(&self.record).into_iter().map(with).collect()
+        let records = smaller_tables(self.context.linear_width, &self.record);
+        records.into_iter().map(with).collect()
     }
 }
 

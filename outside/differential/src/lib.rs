@@ -1,12 +1,13 @@
 //! The proved library against the independent model.
 //!
 //! A case is the inputs of a step, of the lookups of one address, of an
-//! explanation, of a run or of a replay. It is compared whole: answers,
-//! contexts, numbers, and each byte of each buffer that was lent. A case in
+//! explanation, of a run, of a replay or of a conversion. It is compared whole:
+//! answers, contexts, numbers, and each byte of each buffer that was lent. A case in
 //! which the two differ is made smaller, if it can be, and printed as text that
 //! `fuzz --case` reads.
 //!
-//! * [`case`], [`step`], [`lookup`], [`explain`], [`run`], [`replay`]: the cases.
+//! * [`case`], [`step`], [`lookup`], [`explain`], [`run`], [`replay`], [`widen`]: the
+//!   cases.
 //! * [`expected`]: what the model says, in the library's form.
 //! * [`draw`], [`sweep`]: random cases, and all those near some bounds.
 //! * [`work`]: how many of each make up a round.
@@ -26,6 +27,7 @@ pub mod step;
 pub mod sweep;
 pub mod tally;
 pub mod text;
+pub mod widen;
 pub mod work;
 
 pub use case::{Case, Failure};

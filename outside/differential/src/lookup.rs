@@ -34,8 +34,9 @@ impl LookupCase {
             ];
             all_same(differences.into_iter().flatten().collect())
                 .map_err(|why| format!("k = {k:#x}: {why}"))?;
-            tally.lookups[answer as usize] += 1;
-            tally.found += u64::from(due.length > 0);
+            let counts = tally.at(self.context.linear_width);
+            counts.lookups[answer as usize] += 1;
+            counts.found += u64::from(due.length > 0);
         }
         if table != self.table {
             return Err("the table was written to".to_string());
@@ -48,7 +49,8 @@ impl LookupCase {
             table,
             ..self.clone()
         };
-        smaller_tables(&self.table).into_iter().map(with).collect()
+        let tables = smaller_tables(self.context.linear_width, &self.table);
+        tables.into_iter().map(with).collect()
     }
 }
 

@@ -7,6 +7,7 @@ use crate::lookup::LookupCase;
 use crate::replay::ReplayCase;
 use crate::run::{Moment, RunCase};
 use crate::step::StepCase;
+use crate::widen::WidenCase;
 use bridge::FlatContext;
 use model::Address;
 
@@ -23,6 +24,7 @@ pub fn parse(text: &str) -> Result<Case, String> {
         "explain" => lines.explain().map(Case::Explain),
         "run" => lines.run().map(Case::Run),
         "replay" => lines.replay().map(Case::Replay),
+        "widen" => lines.widen().map(Case::Widen),
         other => Err(format!("no case '{other}'")),
     }
 }
@@ -87,10 +89,12 @@ impl<'a> Lines<'a> {
     }
 
     fn context(&mut self) -> Result<FlatContext, String> {
-        let [capability, width, pcid, cpl, place, vpid, ept, ep4ta] = self.numbers("context")?;
+        let [capability, width, linear_width, pcid, cpl, place, vpid, ept, ep4ta] =
+            self.numbers("context")?;
         Ok(FlatContext {
             capability,
             width,
+            linear_width,
             pcid,
             cpl,
             place,
@@ -152,7 +156,7 @@ impl<'a> Lines<'a> {
     }
 
     fn run(&mut self) -> Result<RunCase, String> {
-        let [capability, width] = self.numbers("start")?;
+        let [capability, width, linear_width] = self.numbers("start")?;
         let mut buffer = || self.buffer("buffer");
         let buffers = [buffer()?, buffer()?, buffer()?, buffer()?];
         let mut moments = Vec::new();
@@ -163,6 +167,7 @@ impl<'a> Lines<'a> {
         Ok(RunCase {
             capability,
             width,
+            linear_width,
             buffers,
             moments,
         })
@@ -186,14 +191,22 @@ impl<'a> Lines<'a> {
     }
 
     fn replay(&mut self) -> Result<ReplayCase, String> {
-        let [capability, width] = self.numbers("start")?;
+        let [capability, width, linear_width] = self.numbers("start")?;
         Ok(ReplayCase {
             capability,
             width,
+            linear_width,
             log: self.bytes("log")?,
             first: self.buffer("first")?,
             second: self.buffer("second")?,
             rows: self.buffer("rows")?,
+        })
+    }
+
+    fn widen(&mut self) -> Result<WidenCase, String> {
+        Ok(WidenCase {
+            table: self.bytes("table")?,
+            new: self.buffer("new")?,
         })
     }
 }

@@ -7,7 +7,8 @@ use crate::expected;
 use crate::tally::Tally;
 use crate::text::{buffer, bytes, numbers};
 use bridge::{lines, FlatReplayed};
-use common::{LOG_LIMIT, PROGRAM_CAPABILITY, PROGRAM_WIDTH, ROW, TABLE_LIMIT};
+use common::{LOG_LIMIT, ROW, TABLE_LIMIT};
+use model::{Context, LinearWidth};
 use std::fmt;
 
 /// The inputs of a replay.
@@ -15,6 +16,7 @@ use std::fmt;
 pub struct ReplayCase {
     pub capability: u64,
     pub width: u64,
+    pub linear_width: u64,
     pub log: Vec<u8>,
     pub first: Buffer,
     pub second: Buffer,
@@ -26,11 +28,11 @@ impl ReplayCase {
         let lend = || [self.first.lend(), self.second.lend(), self.rows.lend()];
         let (mut ours, mut theirs) = (lend(), lend());
         let log = self.log.clone();
-        let (capability, width) = (self.capability, self.width);
         let [a, b, rows] = &mut theirs;
         let due = expected::replay(
-            capability,
-            width,
+            self.capability,
+            self.width,
+            self.linear_width,
             &self.log,
             a.part_mut(),
             b.part_mut(),
@@ -38,8 +40,9 @@ impl ReplayCase {
         );
         let [a, b, rows] = &mut ours;
         let got = bridge::replay_flat(
-            capability,
-            width,
+            self.capability,
+            self.width,
+            self.linear_width,
             &log,
             a.part_mut(),
             b.part_mut(),
@@ -63,7 +66,7 @@ impl ReplayCase {
             }
         }
         for row in &rows {
-            tally.rows[row.answer as usize] += 1;
+            tally.at(self.linear_width).rows[row.answer as usize] += 1;
         }
         tally.replays += 1;
         Ok(())
@@ -71,15 +74,15 @@ impl ReplayCase {
 
     /// What the replay program would do with this log.
     fn is_the_programs(&self) -> bool {
-        self.capability == PROGRAM_CAPABILITY
-            && self.width == PROGRAM_WIDTH
+        let start = Context::after_reset(self.capability, self.width, self.linear_width);
+        start == Context::program()
             && self.log.len() <= LOG_LIMIT
             && self.first.length >= TABLE_LIMIT
             && self.second.length >= TABLE_LIMIT
     }
 
     pub fn smaller(&self) -> Vec<ReplayCase> {
-        let starts = starts(&self.log);
+        let starts = starts(self.linear_width, &self.log);
         let without = |part: std::ops::Range<usize>| {
             let mut log = self.log.clone();
             log.drain(starts[part.start]..starts[part.end]);
@@ -101,13 +104,15 @@ fn same_end(got: &FlatReplayed, due: &FlatReplayed) -> Result<(), String> {
     all_same(differences)
 }
 
-/// Where the events of a log start, and its end. From an unknown kind or a cut
-/// record on all is one event.
-pub fn starts(log: &[u8]) -> Vec<usize> {
+/// Where the events of a log start at a linear width, and its end. From an
+/// unknown kind or a cut record on all is one event.
+pub fn starts(linear_width: u64, log: &[u8]) -> Vec<usize> {
+    let width = LinearWidth::of(linear_width);
     let mut starts = vec![0];
     let mut at = 0;
     while at < log.len() {
-        at += model::replay::first_event(&log[at..]).map_or(log.len() - at, <[u8]>::len);
+        let event = model::replay::first_event(width, &log[at..]);
+        at += event.map_or(log.len() - at, <[u8]>::len);
         starts.push(at);
     }
     starts
@@ -116,7 +121,8 @@ pub fn starts(log: &[u8]) -> Vec<usize> {
 impl fmt::Display for ReplayCase {
     fn fmt(&self, f: &mut fmt::Formatter) -> fmt::Result {
         writeln!(f, "case replay")?;
-        writeln!(f, "{}", numbers("start", &[self.capability, self.width]))?;
+        let start = [self.capability, self.width, self.linear_width];
+        writeln!(f, "{}", numbers("start", &start))?;
         writeln!(f, "{}", bytes("log", &self.log))?;
         writeln!(f, "{}", buffer("first", &self.first))?;
         writeln!(f, "{}", buffer("second", &self.second))?;

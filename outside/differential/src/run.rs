@@ -19,6 +19,7 @@ use std::fmt;
 pub struct RunCase {
     pub capability: u64,
     pub width: u64,
+    pub linear_width: u64,
     /// The two buffers of the first run, then those of the second.
     pub buffers: [Buffer; 4],
     pub moments: Vec<Moment>,
@@ -47,9 +48,8 @@ type Stepper = fn(&FlatContext, &[u8], &[u8], &mut [u8]) -> FlatStep;
 
 impl Side {
     fn new(case: &RunCase, buffers: &[Buffer]) -> Side {
-        let start = Context::after_reset(case.capability, case.width);
         Side {
-            context: bridge::flat(&start),
+            context: bridge::flat(&case.start()),
             buffers: [buffers[0].lend(), buffers[1].lend()],
             now: 0,
             length: 0,
@@ -136,10 +136,14 @@ impl Pair {
 }
 
 impl RunCase {
+    fn start(&self) -> Context {
+        Context::after_reset(self.capability, self.width, self.linear_width)
+    }
+
     pub fn check(&self, tally: &mut Tally) -> Result<(), String> {
         let mut first = Pair::new(self, &self.buffers[..2]);
         let mut second = Pair::new(self, &self.buffers[2..]);
-        let mut book = Book::new(self.capability, self.width);
+        let mut book = Book::new(&self.start());
         // Once the first run was refused for room, nothing is claimed of the
         // second.
         let mut room = true;
@@ -154,10 +158,11 @@ impl RunCase {
                 continue;
             };
             let step = first.feed(event).map_err(at)?;
-            tally.run_steps[step.answer as usize] += 1;
-            tally.rules[step.rule as usize] += 1;
+            let counts = tally.at(self.linear_width);
+            counts.run_steps[step.answer as usize] += 1;
+            counts.rules[step.rule as usize] += 1;
             if step.answer == 0 {
-                tally.accept(event, step.dropped);
+                counts.accept(event, step.dropped);
             }
             by_the_book(&mut book, event, &step, first.ours.table()).map_err(at)?;
             room = room && step.answer != 12;
@@ -225,7 +230,8 @@ fn by_the_book(book: &mut Book, event: &[u8], step: &FlatStep, table: &[u8]) -> 
 impl fmt::Display for RunCase {
     fn fmt(&self, f: &mut fmt::Formatter) -> fmt::Result {
         writeln!(f, "case run")?;
-        writeln!(f, "{}", numbers("start", &[self.capability, self.width]))?;
+        let start = [self.capability, self.width, self.linear_width];
+        writeln!(f, "{}", numbers("start", &start))?;
         for lent in &self.buffers {
             writeln!(f, "{}", buffer("buffer", lent))?;
         }

@@ -31,17 +31,18 @@ impl StepCase {
         if table != self.table || event != self.event {
             return Err("the table or the event was written to".to_string());
         }
-        tally.steps[due.answer as usize] += 1;
-        tally.rules[due.rule as usize] += 1;
+        let counts = tally.at(self.context.linear_width);
+        counts.steps[due.answer as usize] += 1;
+        counts.rules[due.rule as usize] += 1;
         if due.answer == 0 {
-            tally.accept(&self.event, due.dropped);
+            counts.accept(&self.event, due.dropped);
         }
         Ok(())
     }
 
     pub fn smaller(&self) -> Vec<StepCase> {
         let mut cases = Vec::new();
-        for table in smaller_tables(&self.table) {
+        for table in smaller_tables(self.context.linear_width, &self.table) {
             let gone = self.table.len() - table.len();
             for length in [self.new.length, self.new.length.saturating_sub(gone)] {
                 let new = Buffer { length, ..self.new };

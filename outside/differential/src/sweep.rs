@@ -5,11 +5,12 @@ use crate::explain::ExplainCase;
 use crate::lookup::LookupCase;
 use crate::replay::ReplayCase;
 use crate::step::StepCase;
+use crate::widen::WidenCase;
 use bridge::FlatContext;
 use common::{canonical, encode, is_mapping_kind, CAPABILITY_BITS, KINDS, PAGES};
-use common::{PROGRAM_CAPABILITY, PROGRAM_WIDTH, ROW, TABLE_LIMIT};
+use common::{LINEAR_WIDTHS, PROGRAM_CAPABILITY, PROGRAM_WIDTH, ROW, TABLE_LIMIT};
 use generate::Rng;
-use model::{Address, Context, Place};
+use model::{Address, Context, LinearWidth, Place};
 
 fn step(rng: &mut Rng, context: FlatContext, table: &[u8], event: &[u8]) -> StepCase {
     let more = rng.below(64);
@@ -21,10 +22,15 @@ fn step(rng: &mut Rng, context: FlatContext, table: &[u8], event: &[u8]) -> Step
     }
 }
 
-/// Every event one field away from a valid one of each kind, and every
-/// mapping record so changed as a part of the table.
+/// Every event one field away from a valid one of each kind, those of the other
+/// linear width too, and every mapping record so changed as a part of the
+/// table.
 pub fn near_events(rng: &mut Rng) -> Vec<StepCase> {
     let context = generate::context(rng);
+    let own = Context {
+        linear_width: context.linear_width,
+        ..Context::program()
+    };
     let count = rng.below(6);
     let table = generate::table(rng, &context, count);
     let mut cases = Vec::new();
@@ -34,7 +40,7 @@ pub fn near_events(rng: &mut Rng) -> Vec<StepCase> {
             let context = flat(rng, &context);
             cases.push(step(rng, context, &table, &near));
             if is_mapping_kind(kind) {
-                let event = generate::event(rng, &Context::program());
+                let event = generate::event(rng, &own);
                 cases.push(step(rng, context, &[&near, &table[..]].concat(), &event));
                 cases.push(step(rng, context, &[&table[..], &near].concat(), &[25]));
             }
@@ -134,7 +140,7 @@ pub fn rooms(rng: &mut Rng) -> Vec<StepCase> {
         ..generate::context(rng)
     };
     let table = if rng.one_in(6) {
-        let free = rng.pick(&[0, 1, 15, 16, 17, 20, 21, 22, 23]);
+        let free = rng.pick(&[0, 1, 15, 16, 17, 18, 20, 21, 22, 23]);
         generate::full_table(rng, &context, TABLE_LIMIT - free)
     } else {
         let count = rng.below(9);
@@ -162,9 +168,10 @@ pub fn rooms(rng: &mut Rng) -> Vec<StepCase> {
 }
 
 /// Addresses one byte inside and outside of each end of each record.
-fn edges(table: &[u8]) -> Vec<u64> {
+fn edges(linear_width: u64, table: &[u8]) -> Vec<u64> {
     let mut edges = Vec::new();
-    for (_, mapping) in model::mapping::records(table).unwrap_or_default() {
+    let width = LinearWidth::of(linear_width);
+    for (_, mapping) in model::mapping::records(width, table).unwrap_or_default() {
         let start = mapping.page << 12;
         let end = (mapping.page + (1 << (9 * mapping.span))) << 12;
         edges.extend([start.wrapping_sub(1), start, end - 1, end]);
@@ -185,12 +192,13 @@ fn edge_events_of(rng: &mut Rng, count: usize) -> Vec<StepCase> {
         ..generate::context(rng)
     };
     let table = generate::table(rng, &context, count);
-    let records = model::mapping::records(&table).unwrap_or_default();
+    let width = context.linear_width;
+    let records = model::mapping::records(LinearWidth::of(width), &table).unwrap_or_default();
     let vpids: Vec<u64> = records.iter().filter_map(|(_, m)| m.vpid).collect();
     let pcids: Vec<u64> = records.iter().filter_map(|(_, m)| m.pcid).collect();
     let mut cases = Vec::new();
-    for edge in edges(&table) {
-        let linear = canonical(edge);
+    for edge in edges(width, &table) {
+        let linear = canonical(width, edge);
         let vpid = vpids.first().map_or(5, |_| rng.pick(&vpids));
         let invvpid = encode(16, &[0, vpid, linear]);
         let pcid = pcids.first().map_or(1, |_| rng.pick(&pcids));
@@ -248,15 +256,17 @@ pub fn edge_lookups(rng: &mut Rng) -> Vec<LookupCase> {
     let context = generate::context(rng);
     let count = rng.below(9);
     let table = generate::table(rng, &context, count);
-    let mut addresses = edges(&table);
-    for bit in [12, 47, 48, 63] {
+    let width = context.linear_width;
+    let mut addresses = edges(width, &table);
+    for bit in [12, 47, 48, 56, 57, 63] {
         addresses.extend([(1 << bit) - 1, 1 << bit]);
     }
     addresses.extend([0, u64::MAX, 0xFFFF_7FFF_FFFF_FFFF, 0xFFFF_8000_0000_0000]);
+    addresses.extend([0xFEFF_FFFF_FFFF_FFFF, 0xFF00_0000_0000_0000]);
     let mut cases = Vec::new();
     for number in addresses {
         for address in [
-            Address::Linear(canonical(number)),
+            Address::Linear(canonical(width, number)),
             Address::Linear(number),
             Address::GuestPhysical(number),
         ] {
@@ -283,7 +293,7 @@ pub fn near_lookups(rng: &mut Rng) -> Vec<LookupCase> {
     let with = |context| LookupCase {
         context,
         table: table.clone(),
-        address: generate::address(rng),
+        address: generate::address(rng, context.linear_width),
     };
     contexts.into_iter().map(with).collect()
 }
@@ -291,14 +301,72 @@ pub fn near_lookups(rng: &mut Rng) -> Vec<LookupCase> {
 /// A short log cut after each of its bytes.
 pub fn cut_logs(rng: &mut Rng) -> Vec<ReplayCase> {
     let length = rng.below(200);
-    let log = generate::log(rng, length);
+    let linear_width = rng.pick(&LINEAR_WIDTHS);
+    let log = generate::log(rng, linear_width, length);
     let with = |cut: usize| ReplayCase {
         capability: PROGRAM_CAPABILITY,
         width: PROGRAM_WIDTH,
+        linear_width,
         log: log[..cut].to_vec(),
         first: buffer(rng, 400),
         second: buffer(rng, 400),
         rows: buffer(rng, ROW * cut),
     };
     (0..=log.len()).map(with).collect()
+}
+
+/// A context for records of 48 bits.
+fn narrow(rng: &mut Rng) -> Context {
+    Context {
+        linear_width: 48,
+        ..generate::context(rng)
+    }
+}
+
+/// Conversions of one table into buffers of many lengths. Now and then the
+/// result is about as long as a table may be.
+pub fn widening_rooms(rng: &mut Rng) -> Vec<WidenCase> {
+    let context = narrow(rng);
+    let table = if rng.one_in(6) {
+        let less = rng.pick(&[0, 0, 1, 2, 3, 16, 17, 18, 19, 36]);
+        generate::table_of_result(rng, &context, TABLE_LIMIT + 18 - less)
+    } else {
+        let count = rng.below(9);
+        generate::table(rng, &context, count)
+    };
+    let result = generate::result_length(&table);
+    let mut lengths = vec![0, 1, 15, 16, 17, 18, table.len(), table.len() + 1];
+    lengths.extend([result.saturating_sub(1), result, result + 1, result + 64]);
+    lengths.extend([TABLE_LIMIT - 1, TABLE_LIMIT, TABLE_LIMIT + 1]);
+    lengths.push(2 * TABLE_LIMIT);
+    let with = |length| WidenCase {
+        table: table.clone(),
+        new: buffer(rng, length),
+    };
+    lengths.into_iter().map(with).collect()
+}
+
+/// Conversions of a table with every record one field away from a valid one of
+/// each kind, those of 57 bits too, and of a table cut after each of its bytes.
+pub fn near_widenings(rng: &mut Rng) -> Vec<WidenCase> {
+    let context = narrow(rng);
+    let count = rng.below(4);
+    let table = generate::table(rng, &context, count);
+    let mut tables = Vec::new();
+    for kind in KINDS.into_iter().filter(|kind| is_mapping_kind(*kind)) {
+        let record = generate::event_of_kind(rng, &context, kind);
+        for near in generate::near_events(&record) {
+            tables.push([&near, &table[..]].concat());
+            tables.push([&table[..], &near].concat());
+        }
+    }
+    for cut in 0..=table.len() {
+        tables.push(table[..cut].to_vec());
+    }
+    let with = |table: Vec<u8>| {
+        let more = rng.below(20);
+        let new = buffer(rng, generate::result_length(&table) + more);
+        WidenCase { table, new }
+    };
+    tables.into_iter().map(with).collect()
 }

@@ -5,6 +5,17 @@ use std::fmt;
 /// Counts over all that was compared.
 #[derive(Clone, Debug, Default)]
 pub struct Tally {
+    /// At linear width 48, at 57, and at any other number.
+    widths: [Counts; 3],
+    /// Conversions by their answer.
+    pub widened: [u64; 13],
+    pub runs: u64,
+    pub replays: u64,
+}
+
+/// Counts at one linear width.
+#[derive(Clone, Debug, Default)]
+pub struct Counts {
     /// Single steps by their answer.
     pub steps: [u64; 13],
     /// Steps of runs by their answer.
@@ -29,11 +40,32 @@ pub struct Tally {
     pub dropping: u64,
     /// Records dropped.
     pub dropped: u64,
-    pub runs: u64,
-    pub replays: u64,
 }
 
 impl Tally {
+    /// The counts of a linear width.
+    pub fn at(&mut self, linear_width: u64) -> &mut Counts {
+        let place = match linear_width {
+            48 => 0,
+            57 => 1,
+            _ => 2,
+        };
+        &mut self.widths[place]
+    }
+
+    /// The counts of the two linear widths that are in range, with the widths.
+    pub fn both(&self) -> [(u64, &Counts); 2] {
+        [(48, &self.widths[0]), (57, &self.widths[1])]
+    }
+
+    /// Calls of the library that were compared; a replay counts its rows.
+    pub fn calls(&self) -> u64 {
+        let widened: u64 = self.widened.iter().sum();
+        widened + self.widths.iter().map(Counts::calls).sum::<u64>()
+    }
+}
+
+impl Counts {
     /// The kind of an accepted event and the records it dropped.
     pub fn accept(&mut self, event: &[u8], dropped: usize) {
         if let Some(count) = event.first().and_then(|kind| {
@@ -46,8 +78,7 @@ impl Tally {
         self.dropped += dropped as u64;
     }
 
-    /// Calls of the library that were compared; a replay counts its rows.
-    pub fn calls(&self) -> u64 {
+    fn calls(&self) -> u64 {
         let all = [&self.steps, &self.run_steps, &self.rows];
         let lookups: u64 = self.lookups.iter().sum();
         let reasons: u64 = self.reasons.iter().sum();
@@ -55,7 +86,7 @@ impl Tally {
     }
 }
 
-impl fmt::Display for Tally {
+impl fmt::Display for Counts {
     fn fmt(&self, f: &mut fmt::Formatter) -> fmt::Result {
         writeln!(
             f,
@@ -87,9 +118,21 @@ impl fmt::Display for Tally {
         )?;
         writeln!(
             f,
-            "{} events dropped {} records; {} lookups found one; {} runs, {} replays",
-            self.dropping, self.dropped, self.found, self.runs, self.replays
-        )?;
+            "{} events dropped {} records; {} lookups found one",
+            self.dropping, self.dropped, self.found
+        )
+    }
+}
+
+impl fmt::Display for Tally {
+    fn fmt(&self, f: &mut fmt::Formatter) -> fmt::Result {
+        for (width, counts) in self.both() {
+            writeln!(f, "linear width {width}")?;
+            writeln!(f, "{counts}")?;
+        }
+        writeln!(f, "other linear widths: {} answers", self.widths[2].calls())?;
+        writeln!(f, "conversions by answer: {}", numbered(&self.widened))?;
+        writeln!(f, "{} runs, {} replays", self.runs, self.replays)?;
         write!(f, "{} answers compared", self.calls())
     }
 }

@@ -18,11 +18,12 @@ pub fn numbers(name: &str, numbers: &[u64]) -> String {
     format!("{name} {}", words.join(" "))
 }
 
-/// A context as a line.
+/// A context as a line, its numbers in the order of the C interface.
 pub fn context(c: &FlatContext) -> String {
     let fields = [
         c.capability,
         c.width,
+        c.linear_width,
         c.pcid,
         c.cpl,
         c.place,

@@ -75,6 +75,15 @@ pub fn replays(rng: &mut Rng, tally: &mut Tally) -> Result<(), Failure> {
     all(sweep::cut_logs(rng), Case::Replay, tally)
 }
 
+/// Conversions, random and at the bounds.
+pub fn widenings(rng: &mut Rng, tally: &mut Tally) -> Result<(), Failure> {
+    for _ in 0..50 {
+        Case::Widen(draw::widen(rng)).compare(tally)?;
+    }
+    all(sweep::widening_rooms(rng), Case::Widen, tally)?;
+    all(sweep::near_widenings(rng), Case::Widen, tally)
+}
+
 /// A run or a replay that fills the table.
 fn filling(rng: &mut Rng, tally: &mut Tally) -> Result<(), Failure> {
     if rng.one_in(2) {
@@ -85,8 +94,8 @@ fn filling(rng: &mut Rng, tally: &mut Tally) -> Result<(), Failure> {
 }
 
 /// The work of one round.
-const ROUND: [Work; 9] = [
-    steps, near_steps, lookups, steps, runs, replays, steps, lookups, explains,
+const ROUND: [Work; 10] = [
+    steps, near_steps, lookups, steps, runs, replays, steps, lookups, explains, widenings,
 ];
 
 /// Once in so many rounds a table is filled.

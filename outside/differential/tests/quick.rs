@@ -4,7 +4,7 @@ use differential::explain::ExplainCase;
 use differential::step::StepCase;
 use differential::work::{self, Work};
 use differential::{draw, sweep, Case, Failure, Tally};
-use generate::{Rng, KINDS};
+use generate::{kinds, Rng};
 
 const SEED: u64 = 20_260_101;
 
@@ -43,64 +43,82 @@ fn sweep_steps(times: usize, sweep: fn(&mut Rng) -> Vec<StepCase>) -> Tally {
 
 #[test]
 fn steps_of_every_answer() {
-    let tally = compare(200, work::steps);
-    assert!(tally.steps.iter().all(|count| *count > 1_000));
-    assert!(tally.rules.iter().all(|count| *count > 200));
-    assert!(tally.dropping > 1_000);
-    for kind in KINDS {
-        assert!(tally.accepted[usize::from(kind)] > 100, "kind {kind}");
+    let tally = compare(300, work::steps);
+    for (width, counts) in tally.both() {
+        assert!(counts.steps.iter().all(|count| *count > 1_000));
+        assert!(counts.rules.iter().all(|count| *count > 200));
+        assert!(counts.dropping > 1_000);
+        for kind in kinds(width) {
+            assert!(counts.accepted[usize::from(kind)] > 100, "kind {kind}");
+        }
     }
 }
 
 #[test]
 fn every_event_near_a_bound() {
     let tally = sweep_steps(20, sweep::near_events);
-    assert!(tally.steps[0] > 1_000 && tally.steps[3] > 1_000 && tally.steps[4] > 1_000);
+    for (_, counts) in tally.both() {
+        for answer in [0, 3, 4] {
+            assert!(counts.steps[answer] > 1_000, "answer {answer}");
+        }
+    }
 }
 
 #[test]
 fn every_context_near_a_bound() {
     let tally = sweep_steps(20, sweep::near_contexts);
-    assert!(tally.steps[0] > 1_000 && tally.steps[1] > 1_000);
+    for (_, counts) in tally.both() {
+        assert!(counts.steps[0] > 1_000 && counts.steps[1] > 1_000);
+    }
 }
 
 #[test]
 fn every_kind_in_every_place() {
-    let tally = sweep_steps(8, sweep::matrix);
-    for answer in [0, 5, 6, 7, 8, 9, 10, 11] {
-        assert!(tally.steps[answer] > 50, "answer {answer}");
+    let tally = sweep_steps(16, sweep::matrix);
+    for (_, counts) in tally.both() {
+        for answer in [0, 4, 5, 6, 7, 8, 9, 10, 11] {
+            assert!(counts.steps[answer] > 50, "answer {answer}");
+        }
     }
 }
 
 #[test]
 fn new_buffers_of_every_length() {
-    let tally = sweep_steps(300, sweep::rooms);
-    assert!(tally.steps[0] > 1_000 && tally.steps[12] > 1_000);
+    let tally = sweep_steps(400, sweep::rooms);
+    for (_, counts) in tally.both() {
+        assert!(counts.steps[0] > 1_000 && counts.steps[12] > 1_000);
+    }
 }
 
 #[test]
 fn addresses_at_the_ends_of_records() {
     let tally = sweep_steps(300, sweep::edge_events);
-    assert!(tally.steps[0] > 1_000 && tally.dropping > 1_000);
+    for (_, counts) in tally.both() {
+        assert!(counts.steps[0] > 1_000 && counts.dropping > 1_000);
+    }
 }
 
 #[test]
 fn lookups_for_all_k() {
-    let tally = compare(100, work::lookups);
-    assert!(tally.lookups.iter().all(|count| *count > 300));
-    assert!(tally.found > 5_000);
+    let tally = compare(200, work::lookups);
+    for (_, counts) in tally.both() {
+        assert!(counts.lookups.iter().all(|count| *count > 300));
+        assert!(counts.found > 5_000);
+    }
 }
 
 #[test]
 fn explanations_of_every_reason() {
     let tally = compare(100, work::explains);
-    assert!(tally.reasons[1..].iter().all(|count| *count > 500));
-    assert!(tally.reason_rules.iter().all(|count| *count > 50));
-    for (answer, count) in tally.refusals.iter().enumerate() {
-        if answer == 2 || answer == 12 {
-            assert_eq!(*count, 0);
-        } else {
-            assert!(*count > 200);
+    for (_, counts) in tally.both() {
+        assert!(counts.reasons[1..].iter().all(|count| *count > 500));
+        assert!(counts.reason_rules.iter().all(|count| *count > 50));
+        for (answer, count) in counts.refusals.iter().enumerate() {
+            if answer == 2 || answer == 12 {
+                assert_eq!(*count, 0);
+            } else {
+                assert!(*count > 200);
+            }
         }
     }
 }
@@ -115,27 +133,39 @@ fn explanations_of_whole_tables() {
         passed(Case::Explain(case).compare(&mut tally));
     }
     // Most tables are not one record.
-    assert!(tally.refusals[3] > 10_000 && tally.reasons[10] > 100);
+    for (_, counts) in tally.both() {
+        assert!(counts.refusals[3] > 5_000 && counts.reasons[10] > 50);
+    }
 }
 
 #[test]
 fn long_runs_by_the_book() {
     let tally = compare(60, work::runs);
-    assert!(tally.runs == 60 && tally.dropped > 1_000);
+    assert_eq!(tally.runs, 60);
+    for (_, counts) in tally.both() {
+        assert!(counts.dropped > 1_000);
+    }
 }
 
 #[test]
 fn replays_of_logs() {
     let tally = compare(60, work::replays);
     assert!(tally.replays > 2_000);
+    for (_, counts) in tally.both() {
+        assert!(counts.rows[0] > 5_000);
+    }
 }
 
 #[test]
-fn a_run_that_fills_the_table() {
+fn runs_that_fill_the_table() {
     let mut rng = Rng::new(SEED);
     let mut tally = Tally::default();
-    passed(Case::Run(draw::filling_run(&mut rng)).compare(&mut tally));
-    assert!(tally.run_steps[12] > 0);
+    for _ in 0..4 {
+        passed(Case::Run(draw::filling_run(&mut rng)).compare(&mut tally));
+    }
+    for (_, counts) in tally.both() {
+        assert!(counts.run_steps[12] > 0);
+    }
 }
 
 #[test]
@@ -145,5 +175,15 @@ fn replays_that_fill_the_table() {
     for _ in 0..4 {
         passed(Case::Replay(draw::filling_replay(&mut rng)).compare(&mut tally));
     }
-    assert!(tally.rows[12] > 0);
+    for (_, counts) in tally.both() {
+        assert!(counts.rows[12] > 0);
+    }
+}
+
+#[test]
+fn conversions_of_every_answer() {
+    let tally = compare(60, work::widenings);
+    for answer in [0, 2, 3, 12] {
+        assert!(tally.widened[answer] > 50, "answer {answer}");
+    }
 }

@@ -14,6 +14,7 @@ fn cases() -> Vec<Case> {
         cases.push(Case::Explain(draw::explain(&mut rng)));
         cases.push(Case::Run(draw::run(&mut rng, 30)));
         cases.push(Case::Replay(draw::replay(&mut rng, 300)));
+        cases.push(Case::Widen(draw::widen(&mut rng)));
     }
     cases
 }
@@ -55,7 +56,7 @@ fn fuzz(words: &[&str], input: &str) -> Output {
 
 #[test]
 fn the_program_compares_a_case_again() {
-    for case in cases().iter().take(10) {
+    for case in cases().iter().take(12) {
         let output = fuzz(&["--case", "-"], &case.to_string());
         assert_eq!(output.status.code(), Some(0));
         assert_eq!(output.stdout, b"no difference\n");

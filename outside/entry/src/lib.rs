@@ -38,7 +38,7 @@ esac
 /// The stand-in for cargo.
 const CARGO: &str = r#"#!/bin/sh
 cd "$CHECKOUT" && echo "cargo $*" >>calls
-mkdir -p outside/target/release && (cd "$PROGRAMS" && cp convert fuzz mutants bench "$CHECKOUT/outside/target/release/")
+mkdir -p outside/target/release && (cd "$PROGRAMS" && cp convert widen fuzz mutants bench "$CHECKOUT/outside/target/release/")
 "#;
 
 /// The checks that the gate runs after rt.
@@ -93,6 +93,7 @@ impl Checkout {
             let mode = fs::Permissions::from_mode(0o755);
             fs::set_permissions(checkout.path(&path), mode).expect("a mode");
         }
+        checkout.write("a.table", &A);
         checkout.write("resets.log", &[25; 65_536]);
         checkout.write("three.log", &[22, 23, 25]);
         checkout
@@ -183,6 +184,12 @@ impl Drop for Checkout {
         let _ = fs::remove_dir_all(&self.0);
     }
 }
+
+/// Document 01's record A, which is the table `a.table`.
+pub const A: [u8; 17] = [
+    0x01, 0x05, 0x00, 0x01, 0x00, 0x00, 0x00, 0x45, 0x23, 0x01, 0x00, 0x00, 0xDE, 0xBC, 0x0A, 0x00,
+    0x00,
+];
 
 /// What the replay program prints for `three.log`.
 pub const THREE: &str = "1 0 0 0\n2 0 0 0\n3 0 0 0\n";

@@ -26,6 +26,8 @@ fn logs() -> Vec<(Vec<u8>, String)> {
         (vec![0], unknown(1, 0)),
         (vec![7], unknown(1, 0)),
         (vec![22, 255, 22, 22], unknown(2, 1)),
+        // A whole record of kind 7, which only 57-bit addresses have.
+        ([VMXON, &[7], &[0; 17], VMXON].concat(), unknown(2, 1)),
         ([VMXON, &entry, &[28]].concat(), unknown(3, 17)),
         ([VMXON, &bad_field, &bad_field[..3]].concat(), cut(3, 5)),
         (vec![25; 65_536], String::new()),

@@ -96,7 +96,7 @@ fn a_closed_pipe() {
 fn closed_descriptors() {
     let checkout = Checkout::built();
     let closed = "skuldrefn: standard input is closed\n";
-    for command in ["replay", "replay -", "assemble", "disassemble"] {
+    for command in ["replay", "replay -", "assemble", "disassemble", "widen"] {
         let run = checkout.sh(&format!("./skuldrefn {command} <&-"));
         assert_eq!((run.status, &run.said[..]), (2, closed), "{command}");
         assert!(run.out.is_empty());
@@ -108,6 +108,7 @@ fn closed_descriptors() {
         "replay three.log",
         "disassemble three.log",
         "assemble",
+        "widen a.table",
         "help",
         "library",
         "fuzz",
@@ -155,6 +156,7 @@ fn the_other_programs() {
         "mutants 1 1",
         "bench",
         "disassemble three.log",
+        "widen a.table",
         "help",
         "help bench",
         "library",

@@ -2,10 +2,11 @@
 
 use entry::{Checkout, THREE};
 
-const COMMANDS: [&str; 8] = [
+const COMMANDS: [&str; 9] = [
     "replay",
     "assemble",
     "disassemble",
+    "widen",
     "library",
     "test",
     "fuzz",
@@ -32,6 +33,18 @@ fn words_that_are_not_taken() {
         "assemble nofile.txt",
         "assemble three.log x",
         "disassemble --all",
+        "disassemble --linear-width",
+        "disassemble --linear-width 56",
+        "disassemble --linear-width '' three.log",
+        "disassemble --linear-width three.log",
+        "disassemble --linear-width 57 --linear-width 57",
+        "disassemble three.log --linear-width 57",
+        "assemble --linear-width 57",
+        "widen nofile.table",
+        "widen --linear-width 57",
+        "widen a.table a.table",
+        "widen /",
+        "widen ''",
         "library x",
         "test quickly",
         "fuzz many",

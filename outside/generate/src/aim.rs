@@ -6,6 +6,7 @@ use crate::damage::any_event;
 use crate::event::{event, event_of_kind, good_eptp};
 use crate::fitting::fitting;
 use crate::pool;
+use crate::record::mapping_kind;
 use crate::Rng;
 use common::{encode, set_field, PROGRAM_CAPABILITY, PROGRAM_WIDTH};
 use model::{Context, Place};
@@ -66,7 +67,7 @@ pub fn aimed(rng: &mut Rng, aim: usize) -> (Context, Vec<u8>) {
         }
         11 => {
             let context = context(rng);
-            let kind = 1 + rng.below(6) as u8;
+            let kind = mapping_kind(rng, context.linear_width);
             let event = event_of_kind(rng, &context, kind);
             (context, event)
         }
@@ -92,7 +93,8 @@ fn bad_invpcid(rng: &mut Rng, context: &Context) -> Vec<u8> {
     if rng.one_in(2) {
         return near(rng, &event);
     }
-    let address = pool::canonical(rng) ^ 1 << (47 + rng.below(17));
+    let width = context.linear_width;
+    let address = pool::canonical(rng, width) ^ pool::not_canonical(rng, width);
     set_field(&mut event, 0, 0);
     set_field(&mut event, 2, address);
     event

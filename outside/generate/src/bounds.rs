@@ -7,7 +7,7 @@ const WORD: &[u64] = &[0, 1, 0xFFFF];
 const PCID: &[u64] = &[0, 4_095, 4_096, 0xFFFF];
 const FLAG: &[u64] = &[0, 1, 2, 0x80, 0xFF];
 const CPL: &[u64] = &[0, 1, 3, 4, 0xFF];
-const SPAN: &[u64] = &[0, 1, 2, 3, 4, 7, 8, 0x80, 0xFF];
+const SPAN: &[u64] = &[0, 1, 2, 3, 4, 5, 7, 8, 0x80, 0xFF];
 const FIVE: &[u64] = &[0, 1, (1 << 40) - 1];
 const PAGE: &[u64] = &[
     0,
@@ -29,6 +29,30 @@ const PAGE: &[u64] = &[
     (1 << 36) + (1 << 27),
     1 << 39,
     (1 << 40) - 1,
+];
+const WIDE_PAGE: &[u64] = &[
+    0,
+    1,
+    (1 << 9) - 1,
+    1 << 9,
+    1 << 18,
+    1 << 27,
+    (1 << 27) + 1,
+    (1 << 35) - 1,
+    1 << 35,
+    (1 << 36) - (1 << 27),
+    (1 << 36) - 1,
+    1 << 36,
+    (1 << 36) + 1,
+    1 << 44,
+    (1 << 45) - (1 << 36),
+    (1 << 45) - (1 << 27),
+    (1 << 45) - (1 << 9),
+    (1 << 45) - 1,
+    1 << 45,
+    (1 << 45) + (1 << 36),
+    1 << 47,
+    (1 << 48) - 1,
 ];
 const KIND_16: &[u64] = &[0, 1, 2, 3, 4, 0x101, (1 << 32) + 1, 1 << 63, u64::MAX];
 const LOW_16: &[u64] = &[
@@ -66,6 +90,11 @@ const LINEAR: &[u64] = &[
     0x0000_8000_0000_0000,
     0xFFFF_7FFF_FFFF_FFFF,
     0xFFFF_8000_0000_0000,
+    0x00FF_FFFF_FFFF_F000,
+    0x00FF_FFFF_FFFF_FFFF,
+    0x0100_0000_0000_0000,
+    0xFEFF_FFFF_FFFF_FFFF,
+    0xFF00_0000_0000_0000,
     u64::MAX,
 ];
 const GUEST_PHYSICAL: &[u64] = &[0, 0xFFF, 0x1000, (1 << 48) - 1, 1 << 48, 1 << 63, u64::MAX];
@@ -100,6 +129,10 @@ fn bounds(kind: u8) -> &'static [&'static [u64]] {
         3 => &[WORD, PCID, FLAG, SPAN, PAGE, FIVE, FIVE],
         4 => &[WORD, PCID, SPAN, PAGE, FIVE],
         6 => &[WORD, PCID, SPAN, PAGE, FIVE, FIVE],
+        7 => &[WORD, PCID, FLAG, SPAN, WIDE_PAGE, FIVE],
+        8 => &[WORD, PCID, FLAG, SPAN, WIDE_PAGE, FIVE, FIVE],
+        9 => &[WORD, PCID, SPAN, WIDE_PAGE, FIVE],
+        10 => &[WORD, PCID, SPAN, WIDE_PAGE, FIVE, FIVE],
         16 => &[KIND_16, LOW_16, LINEAR],
         17 => &[KIND_16, EPTP, HIGH_17],
         18 => &[LINEAR],

@@ -54,7 +54,7 @@ pub fn case(rng: &mut Rng) -> Case {
         }
     };
     if rng.one_in(2) {
-        aim_at_some_record(rng, &table, &mut event);
+        aim_at_some_record(rng, &context, &table, &mut event);
     }
     let mut room = if aim == 12 { Room::Short } else { Room::Enough };
     match aim {
@@ -82,11 +82,11 @@ pub fn case(rng: &mut Rng) -> Case {
 }
 
 /// Gives a whole INVVPID, INVPCID, INVLPG or EPT violation the page of some record.
-fn aim_at_some_record(rng: &mut Rng, table: &[u8], event: &mut [u8]) {
+fn aim_at_some_record(rng: &mut Rng, context: &Context, table: &[u8], event: &mut [u8]) {
     let Some(page) = page_of_some(rng, table) else {
         return;
     };
-    let address = pool::canonical_of(page, 0x9AB);
+    let address = pool::canonical_of(context.linear_width, page, 0x9AB);
     let whole = |kind: &&u8| length(**kind) == Some(event.len());
     match event.first().filter(whole) {
         Some(16 | 26) => set_field(event, 2, address),
@@ -99,7 +99,7 @@ fn aim_at_some_record(rng: &mut Rng, table: &[u8], event: &mut [u8]) {
 
 /// A table so full that a creation has just room or just none.
 fn crowded(rng: &mut Rng, context: &Context) -> Vec<u8> {
-    let free = rng.pick(&[0, 1, 15, 16, 17, 20, 21, 22]);
+    let free = rng.pick(&[0, 1, 15, 16, 17, 18, 20, 21, 22, 23]);
     full_table(rng, context, TABLE_LIMIT - free)
 }
 

@@ -2,7 +2,7 @@
 
 use crate::pool;
 use crate::Rng;
-use common::{CAPABILITY_BITS, PROGRAM_CAPABILITY, PROGRAM_WIDTH};
+use common::{CAPABILITY_BITS, LINEAR_WIDTHS, PROGRAM_CAPABILITY, PROGRAM_WIDTH};
 use model::{Context, Place};
 
 /// The program's capability, often with one bit changed.
@@ -38,6 +38,7 @@ pub fn context(rng: &mut Rng) -> Context {
     Context {
         capability: capability(rng),
         width: width(rng),
+        linear_width: rng.pick(&LINEAR_WIDTHS),
         pcid: pool::pcid(rng),
         cpl: rng.pick(&[0, 0, 0, 0, 0, 1, 2, 3]),
         place: match rng.below(6) {
@@ -51,12 +52,31 @@ pub fn context(rng: &mut Rng) -> Context {
     }
 }
 
+/// Linear widths that are out of range.
+pub const BAD_LINEAR_WIDTHS: [u64; 9] = [
+    0,
+    47,
+    49,
+    56,
+    58,
+    (1 << 32) + 48,
+    (1 << 32) + 57,
+    1 << 63,
+    u64::MAX,
+];
+
 /// Every context that differs from a given one in one field, at that field's
 /// bounds or one past them. Some are in range and some are not.
 pub fn near_contexts(context: &Context) -> Vec<Context> {
     let mut near = Vec::new();
     for width in [0, 35, 36, 52, 53, 36 + (1 << 32), u64::MAX] {
         near.push(Context { width, ..*context });
+    }
+    for linear_width in LINEAR_WIDTHS.into_iter().chain(BAD_LINEAR_WIDTHS) {
+        near.push(Context {
+            linear_width,
+            ..*context
+        });
     }
     for pcid in [0, 4_095, 4_096, 1 << 16, 1 << 32, u64::MAX] {
         near.push(Context { pcid, ..*context });
@@ -100,6 +120,7 @@ pub fn any_context(rng: &mut Rng) -> Context {
         1 => Context {
             capability: rng.number(),
             width: rng.number() % 64,
+            linear_width: rng.number() % 64,
             pcid: rng.number() % 8192,
             cpl: rng.number() % 8,
             ..context

@@ -1,7 +1,7 @@
 //! Valid events.
 
 use crate::pool;
-use crate::record::record_of_kind;
+use crate::record::{mapping_kind, record_of_kind};
 use crate::Rng;
 use common::encode;
 use model::Context;
@@ -9,22 +9,22 @@ use model::Context;
 /// A valid event of any kind. It may well be refused in this context.
 pub fn event(rng: &mut Rng, context: &Context) -> Vec<u8> {
     let kind = match rng.below(10) {
-        0..=3 => 1 + rng.below(6),
+        0..=3 => mapping_kind(rng, context.linear_width),
         4 => 16,
         5 => 17,
-        _ => 16 + rng.below(12),
+        _ => 16 + rng.below(12) as u8,
     };
-    event_of_kind(rng, context, kind as u8)
+    event_of_kind(rng, context, kind)
 }
 
-/// The same, of one known kind.
+/// The same, of one kind that is known at either width.
 pub fn event_of_kind(rng: &mut Rng, context: &Context, kind: u8) -> Vec<u8> {
     match kind {
-        1..=6 => record_of_kind(rng, context, kind),
-        16 => invvpid(rng),
+        1..=10 => record_of_kind(rng, context, kind),
+        16 => invvpid(rng, context),
         17 => invept(rng),
-        18 => invlpg(rng),
-        19 => violation(rng),
+        18 => invlpg(rng, context),
+        19 => violation(rng, context),
         20 => entry(rng),
         21 => encode(21, &[pool::pcid(rng)]),
         24 => encode(24, &[pool::pcid(rng), rng.pick(&[0, 0, 0, 1, 3])]),
@@ -35,7 +35,7 @@ pub fn event_of_kind(rng: &mut Rng, context: &Context, kind: u8) -> Vec<u8> {
 }
 
 /// An INVVPID whose operands are mostly good.
-fn invvpid(rng: &mut Rng) -> Vec<u8> {
+fn invvpid(rng: &mut Rng, context: &Context) -> Vec<u8> {
     let kind = if rng.one_in(12) {
         rng.pick(&[4, 0x100, (1 << 32) + 1, 1 << 63, u64::MAX])
     } else {
@@ -49,14 +49,17 @@ fn invvpid(rng: &mut Rng) -> Vec<u8> {
     if rng.one_in(10) {
         low |= 1 << (16 + rng.below(48));
     }
-    encode(16, &[kind, low, pool::linear(rng)])
+    encode(16, &[kind, low, pool::linear(rng, context.linear_width)])
 }
 
 /// An INVVPID that is accepted in root with the program's capability.
-pub fn good_invvpid(rng: &mut Rng) -> Vec<u8> {
+pub fn good_invvpid(rng: &mut Rng, context: &Context) -> Vec<u8> {
     let kind = rng.pick(&[0, 0, 0, 0, 1, 2, 3, 3]);
     let vpid = pool::vpid_not_zero(rng);
-    encode(16, &[kind, vpid, pool::canonical(rng)])
+    encode(
+        16,
+        &[kind, vpid, pool::canonical(rng, context.linear_width)],
+    )
 }
 
 /// An INVEPT whose operands are mostly good.
@@ -107,14 +110,17 @@ fn invpcid(rng: &mut Rng, context: &Context) -> Vec<u8> {
     if rng.one_in(10) {
         low |= 1 << (12 + rng.below(52));
     }
-    encode(26, &[kind, low, pool::linear(rng)])
+    encode(26, &[kind, low, pool::linear(rng, context.linear_width)])
 }
 
 /// An INVPCID that is accepted at CPL 0.
 pub fn good_invpcid(rng: &mut Rng, context: &Context) -> Vec<u8> {
     let kind = rng.pick(&[0, 0, 0, 0, 1, 1, 2, 3]);
     let pcid = named_pcid(rng, context);
-    encode(26, &[kind, pcid, pool::canonical(rng)])
+    encode(
+        26,
+        &[kind, pcid, pool::canonical(rng, context.linear_width)],
+    )
 }
 
 /// The current PCID, or any.
@@ -123,17 +129,18 @@ fn named_pcid(rng: &mut Rng, context: &Context) -> u64 {
     rng.pick(&[context.pcid % 4_096, pcid])
 }
 
-pub fn invlpg(rng: &mut Rng) -> Vec<u8> {
-    encode(18, &[pool::linear(rng)])
+pub fn invlpg(rng: &mut Rng, context: &Context) -> Vec<u8> {
+    encode(18, &[pool::linear(rng, context.linear_width)])
 }
 
 /// An EPT violation, with a linear address or without.
-pub fn violation(rng: &mut Rng) -> Vec<u8> {
+pub fn violation(rng: &mut Rng, context: &Context) -> Vec<u8> {
+    let width = context.linear_width;
     let physical = pool::guest_physical(rng);
     let (flag, linear) = if rng.one_in(3) {
-        (0, pool::linear(rng))
+        (0, pool::linear(rng, width))
     } else {
-        (1, pool::canonical(rng))
+        (1, pool::canonical(rng, width))
     };
     encode(19, &[physical, flag, linear])
 }

@@ -6,9 +6,9 @@ use crate::context::near_context;
 use crate::damage::{damage, spoiled};
 use crate::event::good_invvpid;
 use crate::pool;
-use crate::record::{current, record, set_page, tagged};
+use crate::record::{current, mapping_kind, other_width, record, set_page, tagged};
 use crate::Rng;
-use common::{field, hex, put, set_field, TABLE_LIMIT};
+use common::{field, hex, put, set_field, sibling, TABLE_LIMIT};
 use model::Context;
 use std::fmt;
 
@@ -49,6 +49,8 @@ pub fn explain(rng: &mut Rng) -> Explain {
         2 | 3 => record = bad_record(rng, &context, record),
         // INVLPG of an address that is not canonical, though the page stays.
         4 | 5 if event.len() == 9 => event[8] ^= 0x80,
+        // A creation of the other width.
+        6 if rng.one_in(4) => event = other_width(&record).unwrap_or(event),
         _ => {}
     }
     Explain {
@@ -66,7 +68,7 @@ fn accepted(rng: &mut Rng) -> (Context, Vec<u8>) {
         return accepted(rng);
     }
     if event[0] == 16 && rng.one_in(2) {
-        event = good_invvpid(rng);
+        event = good_invvpid(rng, &context);
         if rng.one_in(3) {
             set_field(&mut event, 0, 3);
         }
@@ -82,9 +84,10 @@ fn near_scope(rng: &mut Rng, context: &Context, event: &[u8]) -> Vec<u8> {
         Some(17 | 19) => &[2, 3, 5, 6],
         _ => &[1, 2, 3, 4, 5, 6],
     };
-    let mut kind = rng.pick(kinds);
+    let width = context.linear_width;
+    let mut kind = sibling(width, rng.pick(kinds));
     let mut tags = current(context);
-    let mut page = pool::page(rng);
+    let mut page = pool::page_of_kind(rng, kind);
     // 0 if the event is cut.
     let number = |nth| field(event, nth).unwrap_or(0);
     match event.first() {
@@ -117,14 +120,14 @@ fn near_scope(rng: &mut Rng, context: &Context, event: &[u8]) -> Vec<u8> {
             1 => tags.pcid ^= 1 << rng.below(12),
             2 if pooled => tags.ept = Some(pool::ep4ta(rng)),
             2 => tags.ept = tags.ept.map(|ep4ta| ep4ta ^ 1 << rng.below(40)),
-            3 if pooled => page = pool::page(rng),
-            3 | 4 => page ^= 1 << rng.below(36),
-            _ => kind = 1 + rng.below(6) as u8,
+            3 if pooled => page = pool::page_of_kind(rng, kind),
+            3 | 4 => page ^= 1 << rng.below(if width == 57 { 45 } else { 36 }),
+            _ => kind = mapping_kind(rng, width),
         }
     }
     let mut record = tagged(rng, kind, &tags);
     set_page(&mut record, page);
-    if kind == 1 || kind == 3 {
+    if [1, 3, 7, 8].contains(&kind) {
         // The global mark.
         set_field(&mut record, 2, rng.below(2) as u64);
     }
@@ -132,9 +135,10 @@ fn near_scope(rng: &mut Rng, context: &Context, event: &[u8]) -> Vec<u8> {
 }
 
 /// Bytes that are not exactly one valid record, or nearly so: cut, damaged,
-/// doubled, two records, none, or more than a table may have.
+/// doubled, of the other width, two records, none, or more than a table may
+/// have.
 fn bad_record(rng: &mut Rng, context: &Context, mut bytes: Vec<u8>) -> Vec<u8> {
-    match rng.below(16) {
+    match rng.below(18) {
         0..=3 => damage(rng, &mut bytes),
         4..=7 => bytes = near(rng, &bytes),
         8 => bytes.clear(),
@@ -143,6 +147,7 @@ fn bad_record(rng: &mut Rng, context: &Context, mut bytes: Vec<u8>) -> Vec<u8> {
         11 => bytes.extend_from_within(..),
         12 | 13 => bytes.extend(record(rng, context)),
         14 => put(&mut bytes, rng.number(), 8),
+        15 | 16 => bytes = other_width(&bytes).unwrap_or(bytes),
         _ => {
             let more = rng.below(3);
             bytes = bytes.repeat(TABLE_LIMIT / bytes.len() + more);

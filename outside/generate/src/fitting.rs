@@ -6,7 +6,7 @@ use crate::event::{
 use crate::pool;
 use crate::record::{current, tagged};
 use crate::Rng;
-use common::encode;
+use common::{encode, sibling};
 use model::{Context, Place};
 
 /// An event that should be accepted in this context, with the program's
@@ -19,7 +19,7 @@ pub fn fitting(rng: &mut Rng, context: &Context) -> (Vec<u8>, Context) {
     }
     match rng.below(22) {
         0..=10 => (creation(rng, context), same),
-        11 if context.cpl == 0 => (invlpg(rng), same),
+        11 if context.cpl == 0 => (invlpg(rng, context), same),
         12 => {
             let cpl = rng.pick(&[0, 0, 3]);
             switch(rng, context, cpl)
@@ -61,7 +61,7 @@ fn creation(rng: &mut Rng, context: &Context) -> Vec<u8> {
     } else {
         rng.pick(&[1, 1, 4])
     };
-    tagged(rng, kind, &tags)
+    tagged(rng, sibling(context.linear_width, kind), &tags)
 }
 
 fn switch(rng: &mut Rng, context: &Context, cpl: u64) -> (Vec<u8>, Context) {
@@ -76,7 +76,7 @@ fn switch(rng: &mut Rng, context: &Context, cpl: u64) -> (Vec<u8>, Context) {
 
 fn from_root(rng: &mut Rng, context: &Context) -> (Vec<u8>, Context) {
     match rng.below(16) {
-        0..=3 => (good_invvpid(rng), *context),
+        0..=3 => (good_invvpid(rng, context), *context),
         4..=6 => (good_invept(rng), *context),
         7 | 8 => (
             vec![23],
@@ -106,7 +106,7 @@ fn from_root(rng: &mut Rng, context: &Context) -> (Vec<u8>, Context) {
 
 fn from_guest(rng: &mut Rng, context: &Context, ept: bool) -> (Vec<u8>, Context) {
     if ept && rng.one_in(2) {
-        return (violation(rng), *context);
+        return (violation(rng, context), *context);
     }
     let pcid = pool::pcid(rng);
     let after = Context {

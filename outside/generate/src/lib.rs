@@ -3,14 +3,15 @@
 //! The same seed gives the same inputs on every machine. Tags, pages and
 //! EP4TAs come from small pools, so that they collide often; most draws aim
 //! at one of the answers 0 to 12, and some carry a second defect, so that the
-//! order of the answers is tried too.
+//! order of the answers is tried too. Contexts have either linear width, and
+//! records, addresses and logs are mostly of that width.
 //!
 //! Bytes are put together by the layouts in `common`. The model lends the
 //! plain types of a context and an address, and no rule.
 //!
 //! * [`Rng`]: the generator of numbers.
-//! * [`case`], [`query`], [`explain`]: inputs of one step, of one lookup and of
-//!   one explanation.
+//! * [`case`], [`query`], [`explain`], [`widening`]: inputs of one step, of one
+//!   lookup, of one explanation and of one conversion.
 //! * [`start`], [`events`], [`log`], [`filling_log`]: whole runs and logs.
 //! * [`context`], [`table`], [`event`], [`address`] and so on: the parts.
 //! * [`near_contexts`], [`near_events`]: every input that differs from a given
@@ -30,16 +31,19 @@ mod record;
 mod rng;
 mod run;
 mod table;
+mod widening;
 
 pub use bounds::near_events;
 pub use case::{case, Case};
-pub use common::{hex, KINDS};
-pub use context::{capability, context, near_contexts};
+pub use common::{hex, kinds, KINDS};
+pub use context::{capability, context, near_contexts, BAD_LINEAR_WIDTHS};
 pub use event::{event, event_of_kind};
 pub use explain::{explain, Explain};
 pub use fitting::fitting;
 pub use pool::address;
 pub use query::{query, Query};
+pub use record::other_width;
 pub use rng::Rng;
 pub use run::{events, filling_log, log, start};
 pub use table::{any_table, full_table, removal, table};
+pub use widening::{result_length, table_of_result, widening, Widening};

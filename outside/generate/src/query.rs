@@ -37,9 +37,9 @@ pub fn query(rng: &mut Rng) -> Query {
     let address = match page_of_some(rng, &table) {
         Some(page) if rng.one_in(2) => match rng.below(3) {
             0 => Address::GuestPhysical(page << 12),
-            _ => Address::Linear(pool::canonical_of(page, 0x9AB)),
+            _ => Address::Linear(pool::canonical_of(context.linear_width, page, 0x9AB)),
         },
-        _ => pool::address(rng),
+        _ => pool::address(rng, context.linear_width),
     };
     Query {
         context,

@@ -1,28 +1,45 @@
 //! Whole runs and logs.
 
 use crate::bounds::near;
-use crate::context::capability;
+use crate::context::{capability, BAD_LINEAR_WIDTHS};
 use crate::damage::{any_event, damage};
 use crate::event::event_of_kind;
 use crate::fitting::fitting;
 use crate::record::{record, record_of_kind};
+use crate::table::filling_kind;
 use crate::Rng;
-use common::{set_field, LOG_LIMIT, PROGRAM_CAPABILITY, PROGRAM_WIDTH, TABLE_LIMIT};
+use common::{kinds, set_field, sibling, LINEAR_WIDTHS, LOG_LIMIT, TABLE_LIMIT};
+use common::{PROGRAM_CAPABILITY, PROGRAM_WIDTH};
 use model::{Context, Place};
 
-/// The capability and the width with which a run starts: mostly the program's.
-pub fn start(rng: &mut Rng) -> (u64, u64) {
-    match rng.below(6) {
+/// The context with which a run starts, after a reset: mostly with the
+/// program's capability and width, and either linear width.
+pub fn start(rng: &mut Rng) -> Context {
+    let (capability, width) = match rng.below(6) {
         0 => (capability(rng), PROGRAM_WIDTH),
         1 => (PROGRAM_CAPABILITY, 35 + rng.below(19) as u64),
         _ => (PROGRAM_CAPABILITY, PROGRAM_WIDTH),
+    };
+    let linear_width = if rng.one_in(12) {
+        rng.pick(&BAD_LINEAR_WIDTHS)
+    } else {
+        rng.pick(&LINEAR_WIDTHS)
+    };
+    Context::after_reset(capability, width, linear_width)
+}
+
+/// The program's context, at a linear width.
+fn program(linear_width: u64) -> Context {
+    Context {
+        linear_width,
+        ..Context::program()
     }
 }
 
-/// The events of a run: most are accepted with the program's capability and
-/// width, others are refused, damaged or random bytes.
-pub fn events(rng: &mut Rng, count: usize) -> Vec<Vec<u8>> {
-    let mut context = Context::program();
+/// The events of a run at a linear width: most are accepted with the program's
+/// capability and width, others are refused, damaged or random bytes.
+pub fn events(rng: &mut Rng, linear_width: u64, count: usize) -> Vec<Vec<u8>> {
+    let mut context = program(linear_width);
     let mut events = Vec::new();
     while events.len() < count {
         let event = match rng.below(40) {
@@ -47,6 +64,7 @@ fn whole(rng: &mut Rng, context: &mut Context) -> Vec<u8> {
         0 => record(rng, context),
         1 => {
             let kind = rng.pick(&[1, 2, 3, 4, 5, 6, 16, 17, 18, 19, 26]);
+            let kind = sibling(context.linear_width, kind);
             let event = event_of_kind(rng, context, kind);
             near(rng, &event)
         }
@@ -89,10 +107,10 @@ fn refused(rng: &mut Rng, context: &Context) -> Vec<u8> {
     }
 }
 
-/// A log of about so many bytes. Most are whole; some are cut, or have an
-/// unknown kind somewhere.
-pub fn log(rng: &mut Rng, length: usize) -> Vec<u8> {
-    let mut context = Context::program();
+/// A log of about so many bytes at a linear width. Most are whole; some are
+/// cut, or have an unknown kind somewhere, perhaps one of the other width.
+pub fn log(rng: &mut Rng, linear_width: u64, length: usize) -> Vec<u8> {
+    let mut context = program(linear_width);
     let mut log = Vec::new();
     while log.len() < length {
         let event = whole(rng, &mut context);
@@ -100,7 +118,7 @@ pub fn log(rng: &mut Rng, length: usize) -> Vec<u8> {
     }
     match rng.below(8) {
         0 => log.truncate(length),
-        1 => log.push(rng.pick(&[0, 7, 8, 15, 28, 255])),
+        1 => unknown_kind(rng, &context, &mut log),
         2 if !log.is_empty() => {
             let at = rng.below(log.len());
             log[at] = rng.number() as u8;
@@ -110,8 +128,21 @@ pub fn log(rng: &mut Rng, length: usize) -> Vec<u8> {
     log
 }
 
-/// A record of kind 1 or 4 that can be created outside VMX after a reset:
-/// VPID 0, PCID 0.
+/// Adds an unknown kind to a log: a byte alone, or a whole record of the other
+/// width, and more behind it.
+fn unknown_kind(rng: &mut Rng, context: &Context, log: &mut Vec<u8>) {
+    if rng.one_in(2) {
+        log.push(rng.pick(&[0, 11, 15, 28, 255]));
+        return;
+    }
+    let other = if context.linear_width == 57 { 48 } else { 57 };
+    let kind = rng.pick(&[0, 2, 3, 5].map(|place| kinds(other)[place]));
+    log.extend(record_of_kind(rng, context, kind));
+    log.extend_from_slice(&[22, 25]);
+}
+
+/// A record of kind 1 or 4 (7 or 9) that can be created outside VMX after a
+/// reset: VPID 0, PCID 0.
 fn own_record(rng: &mut Rng, context: &Context, kind: u8) -> Vec<u8> {
     let mut record = record_of_kind(rng, context, kind);
     set_field(&mut record, 0, 0);
@@ -121,27 +152,25 @@ fn own_record(rng: &mut Rng, context: &Context, kind: u8) -> Vec<u8> {
 
 /// A log of at most the limit that fills the table to its last byte or
 /// nearly, is refused creations, and goes on with drops and creations.
-pub fn filling_log(rng: &mut Rng) -> Vec<u8> {
-    let mut context = Context::program();
+pub fn filling_log(rng: &mut Rng, linear_width: u64) -> Vec<u8> {
+    let mut context = program(linear_width);
     let mut log = Vec::new();
     let mut filled = 0;
     let free = rng.pick(&[0, 0, 0, 1, 16]);
     while filled < TABLE_LIMIT - free {
-        // In the end records of 17 bytes until the rest is a multiple of 16.
         let left = TABLE_LIMIT - free - filled;
         let kind = if left >= 300 {
-            rng.pick(&[1, 4])
-        } else if left.is_multiple_of(16) {
-            4
+            sibling(linear_width, rng.pick(&[1, 4]))
         } else {
-            1
+            filling_kind(&context, left)
         };
         let record = own_record(rng, &context, kind);
         filled += record.len();
         log.extend_from_slice(&record);
     }
-    // 17 bytes more than there is room for.
-    log.extend_from_slice(&own_record(rng, &context, 1));
+    // 17 bytes (18) where there is room for 16 at most.
+    let more = sibling(linear_width, 1);
+    log.extend_from_slice(&own_record(rng, &context, more));
     loop {
         let event = if rng.one_in(3) {
             record(rng, &context)

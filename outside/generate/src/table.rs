@@ -2,9 +2,9 @@
 
 use crate::bounds::near;
 use crate::damage::damage;
-use crate::record::{page, record, record_of_kind};
+use crate::record::{other_width, page, record, record_of_kind};
 use crate::Rng;
-use common::{length, TABLE_LIMIT};
+use common::{length, sibling, TABLE_LIMIT};
 use model::Context;
 
 /// A valid table of so many records; some stand twice.
@@ -26,16 +26,23 @@ pub fn full_table(rng: &mut Rng, context: &Context, length: usize) -> Vec<u8> {
     while table.len() + 300 < length {
         table.extend_from_slice(&record(rng, context));
     }
-    // Records of 17 bytes until the rest is a multiple of 16.
     while table.len() < length {
-        let kind = if (length - table.len()).is_multiple_of(16) {
-            4
-        } else {
-            1
-        };
+        let kind = filling_kind(context, length - table.len());
         table.extend_from_slice(&record_of_kind(rng, context, kind));
     }
     table
+}
+
+/// The kind of the next record where so many bytes, some 300 at most, are to be
+/// filled to the last: kind 1 (17 bytes) until the rest is a multiple of kind 4's
+/// 16, or their siblings of 18 and 17 bytes.
+pub fn filling_kind(context: &Context, left: usize) -> u8 {
+    let [long, short] = [1, 4].map(|kind| sibling(context.linear_width, kind));
+    if left.is_multiple_of(length(short).unwrap_or(1)) {
+        short
+    } else {
+        long
+    }
 }
 
 /// A table that need not be valid: mostly it is, and then it is of any size
@@ -60,9 +67,16 @@ pub fn any_table(rng: &mut Rng, context: &Context) -> Vec<u8> {
 
 /// Makes a table bad, or nearly so.
 pub fn spoil_table(rng: &mut Rng, context: &Context, table: &mut Vec<u8>) {
-    match rng.below(4) {
+    match rng.below(6) {
         0 => damage(rng, table),
         1 => {
+            // One record of the other width, somewhere in the table.
+            let record = record(rng, context);
+            let at = boundary(rng, table);
+            table.splice(at..at, other_width(&record).unwrap_or(record));
+        }
+        2 => *table = table_of_other_width(table),
+        3 => {
             let count = 1 + rng.below(60);
             *table = rng.bytes(count);
         }
@@ -73,6 +87,14 @@ pub fn spoil_table(rng: &mut Rng, context: &Context, table: &mut Vec<u8>) {
             table.splice(at..at, near(rng, &record));
         }
     }
+}
+
+/// A valid table with all records at the other width.
+fn table_of_other_width(table: &[u8]) -> Vec<u8> {
+    let starts = boundaries(table);
+    let records = starts.windows(2).map(|ends| &table[ends[0]..ends[1]]);
+    let other = |record: &[u8]| other_width(record).unwrap_or(record.to_vec());
+    records.flat_map(other).collect()
 }
 
 /// A table longer than the limit, valid but for its length or not.
@@ -92,7 +114,7 @@ pub fn long_table(rng: &mut Rng, context: &Context) -> Vec<u8> {
 }
 
 /// Where records of a valid table start, and its end.
-fn boundaries(table: &[u8]) -> Vec<usize> {
+pub fn boundaries(table: &[u8]) -> Vec<usize> {
     let mut starts = vec![0];
     let mut at = 0;
     while at < table.len() {

@@ -1,42 +1,152 @@
-//! The generator reaches every answer, reason and EPTP rule often, and gives
-//! the same each time.
+//! The generator reaches every answer, reason and EPTP rule often, at both
+//! linear widths, and gives the same each time.
 
-use common::{canonical, field, sizes, KINDS, LOG_LIMIT};
-use generate::{case, events, explain, filling_log, log, near_events, query, Rng};
-use model::{lookup, step};
+use common::{canonical, field, is_mapping_kind, kinds, sizes, KINDS, LINEAR_WIDTHS, LOG_LIMIT};
+use generate::{case, events, explain, filling_log, log, near_events, other_width, query, Rng};
+use generate::{table_of_result, widening, BAD_LINEAR_WIDTHS};
+use model::event::Event;
+use model::mapping::{records, Mapping};
+use model::LinearWidth::{self, Bits48, Bits57};
+use model::{lookup, step, widen, TABLE_LIMIT};
 
 const SEED: u64 = 7;
+
+/// Which counts a context belongs to: those of 48 bits, of 57, or none.
+fn place(linear_width: u64) -> Option<usize> {
+    LINEAR_WIDTHS.iter().position(|own| *own == linear_width)
+}
+
+/// What was reached at one linear width.
+#[derive(Debug, Default)]
+struct Reached {
+    answers: [usize; 13],
+    kinds_accepted: [usize; 28],
+    rules: [[usize; 6]; 13],
+    dropping: usize,
+}
 
 #[test]
 fn every_answer_is_reached() {
     println!("seed {SEED}");
     let mut rng = Rng::new(SEED);
-    let mut reached = [0; 13];
-    let mut kinds_accepted = [0; 28];
-    let mut rules = [[0; 6]; 13];
-    let mut dropping = 0;
-    for _ in 0..20_000 {
+    let mut both = [Reached::default(), Reached::default()];
+    let mut bad_widths = 0;
+    for _ in 0..40_000 {
         let mut case = case(&mut rng);
         let step = step(&case.context, &case.table, &case.event, &mut case.new);
-        reached[step.answer as usize] += 1;
-        rules[step.answer as usize][step.rule as usize] += 1;
+        let Some(place) = place(case.context.linear_width) else {
+            assert_eq!(step.answer, 1);
+            bad_widths += 1;
+            continue;
+        };
+        let reached = &mut both[place];
+        reached.answers[step.answer as usize] += 1;
+        reached.rules[step.answer as usize][step.rule as usize] += 1;
         if step.answer == 0 {
-            kinds_accepted[usize::from(case.event[0])] += 1;
-            dropping += usize::from(step.dropped > 0);
+            reached.kinds_accepted[usize::from(case.event[0])] += 1;
+            reached.dropping += usize::from(step.dropped > 0);
         }
     }
-    println!("answers reached: {reached:?}");
-    println!("kinds accepted: {kinds_accepted:?}");
-    println!("with a drop: {dropping}");
-    println!("rules of 8: {:?}, of 10: {:?}", rules[8], rules[10]);
-    assert!(reached.iter().all(|count| *count >= 300));
-    for kind in KINDS {
-        assert!(kinds_accepted[usize::from(kind)] >= 30, "kind {kind}");
+    println!("at widths out of range: {bad_widths}");
+    assert!(bad_widths >= 300);
+    for (width, reached) in LINEAR_WIDTHS.iter().zip(both) {
+        println!("{width} bits: {reached:?}");
+        assert!(reached.answers.iter().all(|count| *count >= 300));
+        for kind in kinds(*width) {
+            let count = reached.kinds_accepted[usize::from(kind)];
+            assert!(count >= 30, "kind {kind} at {width} bits");
+        }
+        assert!(reached.dropping >= 500);
+        for answer in [8, 10] {
+            assert!(reached.rules[answer].iter().all(|count| *count >= 20));
+        }
     }
-    assert!(dropping >= 500);
-    for answer in [8, 10] {
-        assert!(rules[answer].iter().all(|count| *count >= 20));
+}
+
+/// Answers 3 and 4 because of a record of the other width alone, and those
+/// addresses at 48 bits that would be canonical at 57.
+#[test]
+fn the_other_width_is_reached() {
+    let mut rng = Rng::new(SEED);
+    let (mut tables, mut creations, mut addresses) = ([0; 2], [0; 2], 0);
+    for _ in 0..40_000 {
+        let mut case = case(&mut rng);
+        let step = step(&case.context, &case.table, &case.event, &mut case.new);
+        let Some(place) = place(case.context.linear_width) else {
+            continue;
+        };
+        let other = [Bits57, Bits48][place];
+        let whole = records(other, &case.table).is_some();
+        tables[place] += usize::from(step.answer == 3 && whole);
+        let valid = Mapping::decode(other, &case.event).is_some();
+        creations[place] += usize::from(step.answer == 4 && valid);
+        let violation = case.event.first() == Some(&19);
+        let valid = Event::decode(other, &case.event).is_some();
+        addresses += usize::from(step.answer == 4 && violation && valid && place == 0);
     }
+    println!("tables {tables:?}, creations {creations:?}, addresses {addresses}");
+    assert!(tables.iter().all(|count| *count >= 100));
+    assert!(creations.iter().all(|count| *count >= 100));
+    assert!(addresses >= 10);
+}
+
+#[test]
+fn every_answer_of_the_converter_is_reached() {
+    let mut rng = Rng::new(SEED);
+    let mut reached = [0; 13];
+    let (mut grown, mut upper, mut full) = (0, 0, 0);
+    for _ in 0..20_000 {
+        let mut case = widening(&mut rng);
+        let widened = widen(&case.table, &mut case.new);
+        reached[widened.answer as usize] += 1;
+        let all = records(Bits48, &case.table).unwrap_or_default();
+        grown += usize::from(widened.answer == 12 && case.new.len() >= TABLE_LIMIT);
+        full += usize::from(widened.length == TABLE_LIMIT);
+        if widened.answer == 0 {
+            upper += all.iter().filter(|(_, m)| m.page >= 1 << 35).count();
+        }
+    }
+    println!("answers {reached:?}, past the limit {grown}, to the byte {full}, {upper} upper");
+    for answer in [0, 2, 3, 12] {
+        assert!(reached[answer] >= 500, "answer {answer}");
+    }
+    assert!(grown >= 50 && full >= 5 && upper >= 1_000);
+}
+
+#[test]
+fn tables_of_a_result() {
+    let mut rng = Rng::new(SEED);
+    let mut new = vec![0; TABLE_LIMIT];
+    for result in (300..700).chain([TABLE_LIMIT - 1, TABLE_LIMIT]) {
+        let mut context = generate::context(&mut rng);
+        context.linear_width = 48;
+        let table = table_of_result(&mut rng, &context, result);
+        let widened = widen(&table, &mut new);
+        assert_eq!((widened.answer, widened.length), (0, result));
+        assert_eq!(generate::result_length(&table), result);
+    }
+}
+
+#[test]
+fn records_of_the_other_width() {
+    let mut rng = Rng::new(SEED);
+    for number in 0..2_000 {
+        let mut context = generate::context(&mut rng);
+        context.linear_width = LINEAR_WIDTHS[number % 2];
+        let (own, other) = [(Bits48, Bits57), (Bits57, Bits48)][number % 2];
+        for kind in kinds(context.linear_width) {
+            let event = generate::event_of_kind(&mut rng, &context, kind);
+            let changed = other_width(&event);
+            let same = !is_mapping_kind(kind) || kind == 2 || kind == 5;
+            assert_eq!(changed.is_none(), same, "kind {kind}");
+            if let Some(changed) = changed {
+                assert!(Mapping::decode(own, &event).is_some());
+                assert!(Mapping::decode(other, &changed).is_some());
+            }
+        }
+    }
+    assert_eq!(other_width(&[]), None);
+    assert_eq!(other_width(&[1, 0]), None);
 }
 
 /// Each ground of INVPCID's answer 7 alone: the CPL, the type, the reserved
@@ -44,44 +154,49 @@ fn every_answer_is_reached() {
 #[test]
 fn every_ground_of_invpcid_is_reached() {
     let mut rng = Rng::new(SEED);
-    let mut reached = [0; 4];
-    for _ in 0..20_000 {
+    let mut both = [[0; 4]; 2];
+    for _ in 0..40_000 {
         let mut case = case(&mut rng);
         let step = step(&case.context, &case.table, &case.event, &mut case.new);
         if step.answer != 7 || case.event[0] != 26 {
             continue;
         }
+        let place = place(case.context.linear_width).expect("a width in range");
         let number = |nth| field(&case.event, nth).unwrap_or(0);
         let (kind, low, address) = (number(0), number(1), number(2));
         let grounds = [
             case.context.cpl > 0,
             kind > 3,
             low >> 12 != 0,
-            kind == 0 && address != canonical(address),
+            kind == 0 && address != canonical(case.context.linear_width, address),
         ];
         if grounds.iter().filter(|holds| **holds).count() == 1 {
             let alone = grounds.iter().position(|holds| *holds);
-            reached[alone.expect("a ground")] += 1;
+            both[place][alone.expect("a ground")] += 1;
         }
     }
-    println!("grounds reached: {reached:?}");
-    assert!(reached.iter().all(|count| *count >= 30));
+    println!("grounds reached: {both:?}");
+    assert!(both.iter().flatten().all(|count| *count >= 30));
 }
 
 #[test]
 fn lookups_find() {
     let mut rng = Rng::new(SEED);
-    let mut reached = [0; 4];
-    let mut found = 0;
-    for _ in 0..20_000 {
+    let mut both = [[0; 4]; 2];
+    let mut found = [0; 2];
+    for _ in 0..40_000 {
         let query = query(&mut rng);
-        let (answer, place) = lookup(&query.context, &query.table, query.address, query.k);
-        reached[answer as usize] += 1;
-        found += usize::from(place.is_some());
+        let (answer, part) = lookup(&query.context, &query.table, query.address, query.k);
+        let Some(place) = place(query.context.linear_width) else {
+            assert_eq!(answer, 1);
+            continue;
+        };
+        both[place][answer as usize] += 1;
+        found[place] += usize::from(part.is_some());
     }
-    println!("answers {reached:?}, found {found}");
-    assert!(reached.iter().all(|count| *count >= 100));
-    assert!(found >= 1_000);
+    println!("answers {both:?}, found {found:?}");
+    assert!(both.iter().flatten().all(|count| *count >= 100));
+    assert!(found.iter().all(|count| *count >= 1_000));
 }
 
 /// The reasons that the papers' tests leave possible for an event of a kind.
@@ -99,50 +214,112 @@ fn possible(kind: u8) -> &'static [u64] {
     }
 }
 
+/// What reasons were reached at one linear width.
+#[derive(Default)]
+struct Reasons {
+    reached: [usize; 11],
+    answers: [usize; 13],
+    rules: [usize; 6],
+    by_kind: [[usize; 11]; 28],
+    /// The reasons of records of each kind.
+    by_record: [[usize; 11]; 11],
+}
+
+impl Reasons {
+    fn check(&self, linear_width: u64) {
+        println!("{linear_width} bits");
+        println!("reasons reached: {:?}", self.reached);
+        println!("answers reached: {:?}", self.answers);
+        println!("rules reached: {:?}", self.rules);
+        assert!(self.reached[1..].iter().all(|count| *count >= 400));
+        assert!(self.rules.iter().all(|count| *count >= 20));
+        for (answer, count) in self.answers.iter().enumerate() {
+            if answer == 2 || answer == 12 {
+                assert_eq!(*count, 0, "answer {answer}");
+            } else {
+                assert!(*count >= 100, "answer {answer}");
+            }
+        }
+        for kind in KINDS {
+            let known = kinds(linear_width).contains(&kind);
+            for reason in 1..=10 {
+                let count = self.by_kind[usize::from(kind)][reason as usize];
+                // A kind of the other width is refused.
+                let possible = if known { possible(kind) } else { &[1] };
+                let right = if possible.contains(&reason) {
+                    count >= 10
+                } else {
+                    count == 0
+                };
+                assert!(right, "kind {kind}, reason {reason}: {count}");
+            }
+            if is_mapping_kind(kind) {
+                let in_scope = self.by_record[usize::from(kind)][10];
+                assert_eq!(in_scope >= 100, known, "records of kind {kind}");
+            }
+        }
+    }
+}
+
 #[test]
 fn every_reason_is_reached() {
     println!("seed {SEED}");
     let mut rng = Rng::new(SEED);
-    let mut reached = [0; 11];
-    let mut answers = [0; 13];
-    let mut rules = [0; 6];
-    let mut by_kind = [[0; 11]; 28];
-    for _ in 0..50_000 {
+    let mut both = [Reasons::default(), Reasons::default()];
+    for _ in 0..100_000 {
         let case = explain(&mut rng);
         let reason = model::explain(&case.context, &case.record, &case.event);
-        reached[reason.number() as usize] += 1;
-        answers[reason.answer() as usize] += 1;
-        rules[reason.rule() as usize] += 1;
-        if let Some(counts) = case
-            .event
-            .first()
-            .and_then(|kind| by_kind.get_mut(usize::from(*kind)))
-        {
-            counts[reason.number() as usize] += 1;
+        let Some(place) = place(case.context.linear_width) else {
+            assert_eq!(reason.answer(), 1);
+            continue;
+        };
+        let number = reason.number() as usize;
+        let counts = &mut both[place];
+        counts.reached[number] += 1;
+        counts.answers[reason.answer() as usize] += 1;
+        counts.rules[reason.rule() as usize] += 1;
+        let kind = |bytes: &[u8]| usize::from(*bytes.first().unwrap_or(&255));
+        if let Some(counts) = counts.by_kind.get_mut(kind(&case.event)) {
+            counts[number] += 1;
+        }
+        if let Some(counts) = counts.by_record.get_mut(kind(&case.record)) {
+            counts[number] += 1;
         }
     }
-    println!("reasons reached: {reached:?}");
-    println!("answers reached: {answers:?}");
-    println!("rules reached: {rules:?}");
-    assert!(reached[1..].iter().all(|count| *count >= 400));
-    assert!(rules.iter().all(|count| *count >= 20));
-    for (answer, count) in answers.iter().enumerate() {
-        if answer == 2 || answer == 12 {
-            assert_eq!(*count, 0, "answer {answer}");
-        } else {
-            assert!(*count >= 100, "answer {answer}");
-        }
+    for (width, reasons) in LINEAR_WIDTHS.iter().zip(both) {
+        reasons.check(*width);
     }
-    for kind in KINDS {
-        for reason in 1..=10 {
-            let count = by_kind[usize::from(kind)][reason as usize];
-            let right = if possible(kind).contains(&reason) {
-                count >= 10
-            } else {
-                count == 0
-            };
-            assert!(right, "kind {kind}, reason {reason}: {count}");
+}
+
+/// Runs start at both widths, and now and then at one that is out of range.
+#[test]
+fn every_start_is_reached() {
+    let mut rng = Rng::new(SEED);
+    let starts: Vec<u64> = (0..2_000)
+        .map(|_| generate::start(&mut rng).linear_width)
+        .collect();
+    let count = |width| starts.iter().filter(|own| **own == width).count();
+    assert!(LINEAR_WIDTHS.into_iter().all(|width| count(width) >= 500));
+    assert!(BAD_LINEAR_WIDTHS.into_iter().all(|width| count(width) >= 1));
+}
+
+/// Logs that end at a whole record of the other width, and not at their end.
+#[test]
+fn logs_end_at_the_other_width() {
+    let mut rng = Rng::new(SEED);
+    for (linear_width, other) in [(48, Bits57), (57, Bits48)] {
+        let mut ended = 0;
+        for _ in 0..500 {
+            let log = log(&mut rng, linear_width, 200);
+            let mut rest = &log[..];
+            while let Some(event) = model::replay::first_event(LinearWidth::of(linear_width), rest)
+            {
+                rest = &rest[event.len()..];
+            }
+            let next = model::replay::first_event(other, rest);
+            ended += usize::from(next.is_some_and(|event| event.len() < rest.len()));
         }
+        assert!(ended >= 10, "{ended} at {linear_width} bits");
     }
 }
 
@@ -153,8 +330,12 @@ fn the_same_seed_gives_the_same() {
         assert_eq!(format!("{}", case(&mut one)), format!("{}", case(&mut two)));
         let (ours, theirs) = (explain(&mut one), explain(&mut two));
         assert_eq!(format!("{ours}"), format!("{theirs}"));
-        assert_eq!(events(&mut one, 50), events(&mut two, 50));
-        assert_eq!(log(&mut one, 500), log(&mut two, 500));
+        for width in [48, 57, 0] {
+            assert_eq!(events(&mut one, width, 50), events(&mut two, width, 50));
+            assert_eq!(log(&mut one, width, 500), log(&mut two, width, 500));
+        }
+        let (ours, theirs) = (widening(&mut one), widening(&mut two));
+        assert_eq!(format!("{ours}"), format!("{theirs}"));
     }
     assert_ne!(Rng::new(0).number(), Rng::new(1).number());
 }
@@ -180,8 +361,10 @@ fn near_events_change_every_field() {
 #[test]
 fn filling_logs_stay_within_the_limit() {
     let mut rng = Rng::new(SEED);
-    for _ in 0..10 {
-        let log = filling_log(&mut rng);
-        assert!(log.len() <= LOG_LIMIT && log.len() > LOG_LIMIT - 25);
+    for width in LINEAR_WIDTHS {
+        for _ in 0..10 {
+            let log = filling_log(&mut rng, width);
+            assert!(log.len() <= LOG_LIMIT && log.len() > LOG_LIMIT - 25);
+        }
     }
 }

@@ -47,10 +47,10 @@ pub struct Book {
 }
 
 impl Book {
-    /// The book at the start of a run.
-    pub fn new(capability: u64, width: u64) -> Book {
+    /// The book at the start of a run, whose context is one after a reset.
+    pub fn new(start: &Context) -> Book {
         Book {
-            context: Context::after_reset(capability, width),
+            context: *start,
             notes: Vec::new(),
             standing: Vec::new(),
         }
@@ -98,7 +98,7 @@ impl Book {
     /// The next event: any bytes.
     pub fn feed(&mut self, event: &[u8]) -> Verdict {
         let answer = answer(&self.context, &self.table(), event, TABLE_LIMIT);
-        let decoded = Event::decode(event);
+        let decoded = Event::decode(self.context.linear(), event);
         let (0, Some(decoded)) = (answer, decoded) else {
             return Verdict {
                 answer,

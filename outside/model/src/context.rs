@@ -1,5 +1,7 @@
 //! The context: what of the processor matters besides the table.
 
+use crate::address::LinearWidth;
+
 /// A context. Every field may be any 64-bit number; what is out of its range
 /// gets answer 1 and is never cut.
 #[derive(Clone, Copy, Debug, PartialEq, Eq)]
@@ -8,6 +10,8 @@ pub struct Context {
     pub capability: u64,
     /// The physical width N.
     pub width: u64,
+    /// The width of linear addresses, 48 or 57 (document 02, Ask 12).
+    pub linear_width: u64,
     pub pcid: u64,
     pub cpl: u64,
     pub place: Place,
@@ -28,10 +32,11 @@ pub enum Place {
 
 impl Context {
     /// The context after a reset.
-    pub fn after_reset(capability: u64, width: u64) -> Context {
+    pub fn after_reset(capability: u64, width: u64, linear_width: u64) -> Context {
         Context {
             capability,
             width,
+            linear_width,
             pcid: 0,
             cpl: 0,
             place: Place::Outside,
@@ -40,7 +45,11 @@ impl Context {
 
     /// The context from which the replay program starts.
     pub fn program() -> Context {
-        Context::after_reset(crate::PROGRAM_CAPABILITY, crate::PROGRAM_WIDTH)
+        Context::after_reset(
+            crate::PROGRAM_CAPABILITY,
+            crate::PROGRAM_WIDTH,
+            crate::PROGRAM_LINEAR_WIDTH,
+        )
     }
 
     /// Every field is in its range. (There is no other condition: a guest
@@ -50,7 +59,16 @@ impl Context {
             Place::Outside | Place::Root => true,
             Place::Guest { vpid, ept } => vpid <= 65_535 && ept.is_none_or(|a| a < 1 << 40),
         };
-        (36..=52).contains(&self.width) && self.pcid <= 4_095 && self.cpl <= 3 && place
+        (36..=52).contains(&self.width)
+            && matches!(self.linear_width, 48 | 57)
+            && self.pcid <= 4_095
+            && self.cpl <= 3
+            && place
+    }
+
+    /// The width at which linear addresses, records and events are read.
+    pub fn linear(&self) -> LinearWidth {
+        LinearWidth::of(self.linear_width)
     }
 
     /// The current VPID: 0 outside VMX and in root.

@@ -1,5 +1,6 @@
 //! Events, and the context after one.
 
+use crate::address::LinearWidth;
 use crate::bytes::Fields;
 use crate::context::{Context, Place};
 use crate::mapping::{self, Mapping};
@@ -7,7 +8,7 @@ use crate::mapping::{self, Mapping};
 /// A valid event.
 #[derive(Clone, Copy, Debug, PartialEq, Eq)]
 pub enum Event {
-    /// Kinds 1 to 6: this mapping was created.
+    /// Kinds 1 to 10: this mapping was created.
     Creation(Mapping),
     /// Kind 16, with the descriptor's two quadwords, the low one first.
     Invvpid { kind: u64, low: u64, high: u64 },
@@ -43,10 +44,11 @@ pub enum Event {
     MovToCr3 { pcid: u64 },
 }
 
-/// The length of an event with its kind byte; None for an unknown kind.
-pub fn length(kind: u8) -> Option<usize> {
+/// The length of an event with its kind byte; None for an unknown kind, and
+/// for a mapping of the other width.
+pub fn length(width: LinearWidth, kind: u8) -> Option<usize> {
     let body = match kind {
-        1..=6 => return mapping::length(kind),
+        1..=10 => return mapping::length(width, kind),
         16 | 17 | 26 => 8 + 16,
         18 => 8,
         19 => 8 + 1 + 8,
@@ -57,17 +59,6 @@ pub fn length(kind: u8) -> Option<usize> {
         _ => return None,
     };
     Some(1 + body)
-}
-
-/// Bits 63 to 47 all equal.
-pub fn canonical(address: u64) -> bool {
-    let top = address >> 47;
-    top == 0 || top == (1 << 17) - 1
-}
-
-/// The page of an address: its bits 47 to 12.
-pub fn page(address: u64) -> u64 {
-    address >> 12 & ((1 << 36) - 1)
 }
 
 /// The EP4TA of an EPTP: its bits 51 to 12.
@@ -84,11 +75,11 @@ fn take_cpl(fields: &mut Fields) -> Option<u64> {
 }
 
 impl Event {
-    /// Reads bytes that are exactly one valid event.
-    pub fn decode(bytes: &[u8]) -> Option<Event> {
+    /// Reads bytes that are exactly one valid event at a width.
+    pub fn decode(width: LinearWidth, bytes: &[u8]) -> Option<Event> {
         let mut fields = Fields(bytes);
         let event = match fields.take(1)? {
-            1..=6 => return Mapping::decode(bytes).map(Event::Creation),
+            1..=10 => return Mapping::decode(width, bytes).map(Event::Creation),
             16 => Event::Invvpid {
                 kind: fields.take(8)?,
                 low: fields.take(8)?,
@@ -102,7 +93,7 @@ impl Event {
             18 => Event::Invlpg {
                 address: fields.take(8)?,
             },
-            19 => take_violation(&mut fields)?,
+            19 => take_violation(width, &mut fields)?,
             20 => take_entry(&mut fields)?,
             21 => Event::Exit {
                 pcid: take_pcid(&mut fields)?,
@@ -164,7 +155,9 @@ impl Event {
                 cpl,
                 ..*context
             },
-            Event::Reset => Context::after_reset(context.capability, context.width),
+            Event::Reset => {
+                Context::after_reset(context.capability, context.width, context.linear_width)
+            }
             Event::MovToCr3 { pcid } => Context { pcid, ..*context },
             Event::Creation(_)
             | Event::Invvpid { .. }
@@ -176,11 +169,11 @@ impl Event {
     }
 }
 
-fn take_violation(fields: &mut Fields) -> Option<Event> {
+fn take_violation(width: LinearWidth, fields: &mut Fields) -> Option<Event> {
     let guest_physical = fields.take(8).filter(|address| *address < 1 << 48)?;
     let flag = fields.take_flag()?;
     let address = fields.take(8)?;
-    if flag && !canonical(address) {
+    if flag && !width.canonical(address) {
         return None;
     }
     Some(Event::EptViolation {

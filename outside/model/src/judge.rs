@@ -1,7 +1,7 @@
 //! The numbered answers. The lowest number that applies is given.
 
 use crate::context::{Context, Place};
-use crate::event::{canonical, Event};
+use crate::event::Event;
 use crate::mapping::{self, Mapping};
 use crate::TABLE_LIMIT;
 
@@ -13,10 +13,10 @@ pub fn answer(context: &Context, table: &[u8], event: &[u8], room: usize) -> u64
     if table.len() > TABLE_LIMIT {
         return 2;
     }
-    if mapping::records(table).is_none() {
+    if mapping::records(context.linear(), table).is_none() {
         return 3;
     }
-    let Some(decoded) = Event::decode(event) else {
+    let Some(decoded) = Event::decode(context.linear(), event) else {
         return 4;
     };
     let grounds = grounds(context, &decoded);
@@ -96,18 +96,18 @@ fn protected(context: &Context, event: &Event) -> bool {
             | Event::Invpcid { .. }
             | Event::MovToCr3 { .. }
     );
-    privileged && context.cpl > 0 || bad_invpcid(event)
+    privileged && context.cpl > 0 || bad_invpcid(context, event)
 }
 
 /// A type above 3, descriptor bits 63:12 not zero, for every type, or type 0
 /// with a non-canonical address.
-fn bad_invpcid(event: &Event) -> bool {
+fn bad_invpcid(context: &Context, event: &Event) -> bool {
     let Event::Invpcid { kind, low, high } = *event else {
         return false;
     };
     let reserved = low >> 12;
     let address = high;
-    kind > 3 || reserved != 0 || kind == 0 && !canonical(address)
+    kind > 3 || reserved != 0 || kind == 0 && !context.linear().canonical(address)
 }
 
 /// 8: VMfail, invalid operand.
@@ -133,7 +133,7 @@ fn bad_invvpid(context: &Context, kind: u64, low: u64, high: u64) -> bool {
     !supported
         || reserved != 0
         || (kind == 0 || kind == 1 || kind == 3) && vpid == 0
-        || kind == 0 && !canonical(address)
+        || kind == 0 && !context.linear().canonical(address)
 }
 
 fn bad_invept(context: &Context, kind: u64, low: u64, high: u64) -> bool {
@@ -227,7 +227,7 @@ fn can_be_created(context: &Context, mapping: &Mapping) -> bool {
     let vpid = mapping.vpid == Some(context.vpid());
     let pcid = mapping.pcid == Some(context.pcid);
     let ep4ta = mapping.ep4ta == context.ep4ta();
-    match mapping.kind {
+    match mapping.sibling() {
         1 | 4 => !ept && vpid && pcid,
         2 | 5 => ept && ep4ta,
         _ => ept && vpid && pcid && ep4ta,

@@ -5,6 +5,7 @@
 //! with the proved model. It is meant to be read beside document 01: each
 //! file is one of its sections.
 //!
+//! * [`address`]: linear addresses at 48 and 57 bits (Ask 12).
 //! * [`context`]: the context and its ranges.
 //! * [`mapping`]: mapping records and tables.
 //! * [`event`]: events (with Ask 5's two), and the context after one.
@@ -12,9 +13,11 @@
 //! * [`scope`]: the required scopes.
 //! * [`reason`]: why a mapping went or stayed (Ask 1).
 //! * [`step()`], [`lookup()`], [`replay()`]: what the model does.
+//! * [`widen()`]: a stored 48-bit table at 57 bits (Ask 12).
 //! * [`book`]: a whole run judged from its events alone.
-//! * [`tuned`]: the same step, written for speed.
+//! * [`tuned`]: the same step and converter, written for speed.
 
+pub mod address;
 pub mod book;
 mod bytes;
 pub mod context;
@@ -27,15 +30,18 @@ pub mod replay;
 pub mod scope;
 pub mod step;
 pub mod tuned;
+pub mod widen;
 
+pub use address::LinearWidth;
 pub use context::{Context, Place};
 pub use lookup::{lookup, usable, Address};
 pub use reason::{explain, Reason};
 pub use replay::{print, replay, Line};
 pub use step::{step, Step};
+pub use widen::{widen, Widened};
 
-/// The longest table, in bytes.
-pub const TABLE_LIMIT: usize = 45_056;
+/// The longest table, in bytes, at either linear width (Ask 12).
+pub const TABLE_LIMIT: usize = 47_104;
 
 /// The longest log that the replay program reads, in bytes.
 pub const LOG_LIMIT: usize = 65_536;
@@ -57,3 +63,6 @@ pub const PROGRAM_CAPABILITY: u64 = 1 << 6
 
 /// The replay program's physical width N.
 pub const PROGRAM_WIDTH: u64 = 52;
+
+/// The replay program's linear width.
+pub const PROGRAM_LINEAR_WIDTH: u64 = 48;

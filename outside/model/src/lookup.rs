@@ -1,7 +1,7 @@
 //! Looking up.
 
+use crate::address::guest_physical_page;
 use crate::context::Context;
-use crate::event::{canonical, page};
 use crate::mapping::{records, Mapping};
 use crate::TABLE_LIMIT;
 use std::ops::Range;
@@ -19,7 +19,7 @@ pub fn answer(context: &Context, table: &[u8]) -> u64 {
         1
     } else if table.len() > TABLE_LIMIT {
         2
-    } else if records(table).is_none() {
+    } else if records(context.linear(), table).is_none() {
         3
     } else {
         0
@@ -32,7 +32,7 @@ pub fn usable(context: &Context, table: &[u8], address: Address) -> Vec<Range<us
     if answer(context, table) != 0 {
         return Vec::new();
     }
-    records(table)
+    records(context.linear(), table)
         .unwrap_or_default()
         .into_iter()
         .filter(|(_, mapping)| is_usable(context, mapping, address))
@@ -58,19 +58,20 @@ fn is_usable(context: &Context, mapping: &Mapping, address: Address) -> bool {
         Address::Linear(address) => {
             // Kinds 1 and 4 have no EP4TA and serve with EPT not in use;
             // kinds 3 and 6 have one and serve with that one in use. Kinds 2
-            // and 5 have no VPID.
-            canonical(address)
+            // and 5 have no VPID. Kinds 7 to 10 are as their siblings.
+            let width = context.linear();
+            width.canonical(address)
                 && mapping.vpid == Some(context.vpid())
                 && (mapping.pcid == Some(context.pcid) || mapping.global)
                 && mapping.ep4ta == context.ep4ta()
-                && mapping.covers(page(address))
+                && mapping.covers(width.page(address))
         }
         Address::GuestPhysical(address) => {
             address < 1 << 48
                 && context.ep4ta().is_some()
                 && matches!(mapping.kind, 2 | 5)
                 && mapping.ep4ta == context.ep4ta()
-                && mapping.covers(page(address))
+                && mapping.covers(guest_physical_page(address))
         }
     }
 }

@@ -1,11 +1,12 @@
-//! Why a mapping went or stayed (document 02, Ask 1; with Asks 2, 5 and 6).
+//! Why a mapping went or stayed (document 02, Ask 1; with Asks 2, 5, 6 and 12).
 //!
 //! The reasons are tried in the paper's order, and the first that holds is
 //! given. Each is written down from the papers by itself, and not from
 //! [`crate::scope`], so that the two can be compared.
 
+use crate::address::guest_physical_page;
 use crate::context::Context;
-use crate::event::{canonical, ep4ta, page, Event};
+use crate::event::{ep4ta, Event};
 use crate::judge;
 use crate::mapping::Mapping;
 use crate::TABLE_LIMIT;
@@ -74,8 +75,10 @@ impl Reason {
 /// Why an event takes a record or leaves it: any context and any bytes.
 pub fn explain(context: &Context, record: &[u8], event: &[u8]) -> Reason {
     let answer = answer(context, record, event);
-    let decoded = Event::decode(event);
-    let (0, Some(mapping), Some(decoded)) = (answer, Mapping::decode(record), decoded) else {
+    let width = context.linear();
+    let decoded = Event::decode(width, event);
+    let (0, Some(mapping), Some(decoded)) = (answer, Mapping::decode(width, record), decoded)
+    else {
         return Reason::Refused {
             answer,
             rule: decoded.map_or(0, |event| judge::rule(context, &event, answer)),
@@ -85,12 +88,12 @@ pub fn explain(context: &Context, record: &[u8], event: &[u8]) -> Reason {
 }
 
 /// The step's answer, with a table of that record alone and a new buffer of
-/// 45,056 bytes. Bytes that are not exactly one valid record are 3, however
-/// many they are.
+/// 47,104 bytes. Bytes that are not exactly one valid record at the context's
+/// width are 3, however many they are.
 fn answer(context: &Context, record: &[u8], event: &[u8]) -> u64 {
     if !context.in_range() {
         1
-    } else if Mapping::decode(record).is_none() {
+    } else if Mapping::decode(context.linear(), record).is_none() {
         3
     } else {
         judge::answer(context, record, event, TABLE_LIMIT)
@@ -101,7 +104,7 @@ fn answer(context: &Context, record: &[u8], event: &[u8]) -> u64 {
 fn of_accepted(context: &Context, mapping: &Mapping, event: &Event) -> Reason {
     if without_scope(context, event) {
         Reason::NoScope
-    } else if not_canonical(event) {
+    } else if not_canonical(context, event) {
         Reason::NotCanonical
     } else if wrong_kind(event, mapping) {
         Reason::WrongKind
@@ -111,7 +114,7 @@ fn of_accepted(context: &Context, mapping: &Mapping, event: &Event) -> Reason {
         Reason::WrongPcid
     } else if wrong_ep4ta(context, event, mapping) {
         Reason::WrongEp4ta
-    } else if not_covered(event, mapping) {
+    } else if not_covered(context, event, mapping) {
         Reason::NotCovering
     } else if spared(event, mapping) {
         Reason::SparedAsGlobal
@@ -130,15 +133,15 @@ fn without_scope(context: &Context, event: &Event) -> bool {
     }
 }
 
-fn not_canonical(event: &Event) -> bool {
+fn not_canonical(context: &Context, event: &Event) -> bool {
     match event {
-        Event::Invlpg { address } => !canonical(*address),
+        Event::Invlpg { address } => !context.linear().canonical(*address),
         _ => false,
     }
 }
 
 /// Reset touches every kind. An EPT violation touches kinds 3 and 6 with
-/// linear flag 1 only.
+/// linear flag 1 only. A kind from 7 on is as its sibling.
 fn wrong_kind(event: &Event, mapping: &Mapping) -> bool {
     let touched: &[u64] = match event {
         Event::Invvpid { .. } | Event::Invlpg { .. } => &[1, 3, 4, 6],
@@ -152,7 +155,7 @@ fn wrong_kind(event: &Event, mapping: &Mapping) -> bool {
         Event::Reset => &[1, 2, 3, 4, 5, 6],
         Event::Creation(_) | Event::Vmxon | Event::Vmxoff | Event::Switch { .. } => &[],
     };
-    !touched.contains(&mapping.kind)
+    !touched.contains(&mapping.sibling())
 }
 
 /// Tested of kinds 1, 3, 4, 6, but not by INVEPT and reset.
@@ -201,21 +204,22 @@ fn wrong_ep4ta(context: &Context, event: &Event, mapping: &Mapping) -> bool {
 
 /// Tested by INVVPID and INVPCID type 0, by INVLPG of kinds 1 and 3 only (Ask
 /// 2), and by an EPT violation, of kinds 2 and 5 by the guest-physical address.
-fn not_covered(event: &Event, mapping: &Mapping) -> bool {
-    let address = match *event {
-        Event::Invvpid { kind: 0, high, .. } => Some(high),
-        Event::Invpcid { kind: 0, high, .. } => Some(high),
-        Event::Invlpg { address } if mapping.is_translation() => Some(address),
+fn not_covered(context: &Context, event: &Event, mapping: &Mapping) -> bool {
+    let linear_page = |address| context.linear().page(address);
+    let page = match *event {
+        Event::Invvpid { kind: 0, high, .. } => Some(linear_page(high)),
+        Event::Invpcid { kind: 0, high, .. } => Some(linear_page(high)),
+        Event::Invlpg { address } if mapping.is_translation() => Some(linear_page(address)),
         Event::EptViolation {
             guest_physical,
             linear,
         } => match mapping.kind {
-            2 | 5 => Some(guest_physical),
-            _ => linear,
+            2 | 5 => Some(guest_physical_page(guest_physical)),
+            _ => linear.map(linear_page),
         },
         _ => None,
     };
-    address.is_some_and(|address| !mapping.covers(page(address)))
+    page.is_some_and(|page| !mapping.covers(page))
 }
 
 /// By INVVPID type 3, INVPCID types 0, 1 and 3 and MOV to CR3: kinds 1 and 3

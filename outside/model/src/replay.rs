@@ -1,5 +1,6 @@
 //! The replay program: a whole log from a reset.
 
+use crate::address::LinearWidth;
 use crate::context::Context;
 use crate::event;
 use crate::step::step;
@@ -27,25 +28,28 @@ impl fmt::Display for Line {
     }
 }
 
-/// The first event of a log, by its kind's length. None for an unknown kind
-/// or a cut record, where a run ends.
-pub fn first_event(log: &[u8]) -> Option<&[u8]> {
-    log.get(..event::length(*log.first()?)?)
+/// The first event of a log at a width, by its kind's length. None for an
+/// unknown kind, which those of the other width are, or a cut record, where a
+/// run ends.
+pub fn first_event(width: LinearWidth, log: &[u8]) -> Option<&[u8]> {
+    log.get(..event::length(width, *log.first()?)?)
 }
 
 /// The lines that the program prints for a log; None if it is too long.
 pub fn replay(log: &[u8]) -> Option<Vec<Line>> {
-    if log.len() > LOG_LIMIT {
-        return None;
-    }
-    let mut context = Context::program();
+    (log.len() <= LOG_LIMIT).then(|| lines(&Context::program(), log))
+}
+
+/// The lines of a log of any length, from any context and an empty table.
+pub fn lines(start: &Context, log: &[u8]) -> Vec<Line> {
+    let mut context = *start;
     let mut table = Vec::new();
     let mut lines = Vec::new();
     let mut rest = log;
     while !rest.is_empty() {
         // Of an unknown kind or a cut record the step gets all that is left,
         // and answers 4.
-        let known = first_event(rest);
+        let known = first_event(context.linear(), rest);
         let event = known.unwrap_or(rest);
         let mut new = vec![0; TABLE_LIMIT];
         let step = step(&context, &table, event, &mut new);
@@ -65,7 +69,7 @@ pub fn replay(log: &[u8]) -> Option<Vec<Line>> {
         }
         rest = &rest[event.len()..];
     }
-    Some(lines)
+    lines
 }
 
 /// The program's output, as bytes would stand on standard output.

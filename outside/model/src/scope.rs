@@ -1,7 +1,9 @@
-//! The required scopes.
+//! The required scopes. Kinds 7 to 10 are dropped as their siblings, kinds 1, 3,
+//! 4 and 6 (document 02, Ask 12), and a comment here names those alone.
 
+use crate::address::guest_physical_page;
 use crate::context::Context;
-use crate::event::{canonical, ep4ta, page, Event};
+use crate::event::{ep4ta, Event};
 use crate::mapping::Mapping;
 
 /// Whether a mapping is in the required scope of an accepted event, judged
@@ -10,7 +12,7 @@ pub fn in_scope(context: &Context, event: &Event, mapping: &Mapping) -> bool {
     match *event {
         Event::Creation(_) | Event::Vmxon | Event::Vmxoff | Event::Switch { .. } => false,
         Event::Reset => true,
-        Event::Invvpid { kind, low, high } => invvpid(kind, low & 0xFFFF, high, mapping),
+        Event::Invvpid { kind, low, high } => invvpid(context, kind, low & 0xFFFF, high, mapping),
         Event::Invept { kind, low, .. } => invept(kind, low, mapping),
         Event::Invlpg { address } => invlpg(context, address, mapping),
         Event::EptViolation {
@@ -25,12 +27,12 @@ pub fn in_scope(context: &Context, event: &Event, mapping: &Mapping) -> bool {
 }
 
 /// Kinds 1, 3, 4, 6 only: those that have a VPID.
-fn invvpid(kind: u64, vpid: u64, address: u64, mapping: &Mapping) -> bool {
+fn invvpid(context: &Context, kind: u64, vpid: u64, address: u64, mapping: &Mapping) -> bool {
     let Some(own) = mapping.vpid else {
         return false;
     };
     match kind {
-        0 => own == vpid && mapping.covers(page(address)),
+        0 => own == vpid && mapping.covers(context.linear().page(address)),
         1 => own == vpid,
         2 => own != 0,
         3 => own == vpid && !mapping.global,
@@ -53,10 +55,11 @@ fn invept(kind: u64, eptp: u64, mapping: &Mapping) -> bool {
 /// Kinds 1, 3, 4, 6 of the current VPID, with any EP4TA or none. Structure
 /// caches go whatever they cover (document 02, Ask 2).
 fn invlpg(context: &Context, address: u64, mapping: &Mapping) -> bool {
-    canonical(address)
+    let width = context.linear();
+    width.canonical(address)
         && mapping.vpid == Some(context.vpid())
         && (mapping.pcid == Some(context.pcid) || mapping.global)
-        && (!mapping.is_translation() || mapping.covers(page(address)))
+        && (!mapping.is_translation() || mapping.covers(width.page(address)))
 }
 
 /// Kinds 2 and 5 by the guest-physical page; kinds 3 and 6 by the linear
@@ -74,11 +77,11 @@ fn violation(
         return false;
     }
     if mapping.vpid.is_none() {
-        return mapping.covers(page(guest_physical));
+        return mapping.covers(guest_physical_page(guest_physical));
     }
     mapping.vpid == Some(context.vpid())
         && mapping.pcid == Some(context.pcid)
-        && linear.is_some_and(|address| mapping.covers(page(address)))
+        && linear.is_some_and(|address| mapping.covers(context.linear().page(address)))
 }
 
 /// Kinds 1, 3, 4, 6 of the current VPID, with any EP4TA or none. Structure
@@ -90,7 +93,7 @@ fn invpcid(context: &Context, kind: u64, pcid: u64, address: u64, mapping: &Mapp
     }
     let named = mapping.pcid == Some(pcid);
     match kind {
-        0 => named && mapping.covers(page(address)) && !mapping.global,
+        0 => named && mapping.covers(context.linear().page(address)) && !mapping.global,
         1 => named && !mapping.global,
         2 => true,
         3 => !mapping.global,

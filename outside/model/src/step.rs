@@ -37,8 +37,9 @@ impl Step {
 /// of `new`; bytes past it stay. A refusal writes nothing.
 pub fn step(context: &Context, table: &[u8], event: &[u8], new: &mut [u8]) -> Step {
     let answer = answer(context, table, event, new.len());
-    let decoded = Event::decode(event);
-    let (0, Some(records), Some(decoded)) = (answer, records(table), decoded) else {
+    let width = context.linear();
+    let decoded = Event::decode(width, event);
+    let (0, Some(records), Some(decoded)) = (answer, records(width, table), decoded) else {
         return Step {
             rule: decoded.map_or(0, |event| rule(context, &event, answer)),
             ..Step::refused(answer, context)

@@ -1,86 +1,130 @@
-//! The same step, lookup and replay, as a good engineer would tune them.
+//! The same step, lookup, replay and converter, as a good engineer would tune
+//! them.
 //!
 //! Nothing is allocated. One pass judges the table and one writes; the event
 //! is decoded once; of a record only the bytes that a test needs are read;
 //! and what stays is copied in runs as long as they come. Lengths and offsets
 //! come from small tables and not from a `match` on the kind, which a
-//! processor guesses badly where kinds are mixed. Tests compare this with the
-//! plain model; the benchmark uses it as its measure.
+//! processor guesses badly where kinds are mixed. The linear width (document
+//! 02, Ask 12) chooses one of those tables before the pass, and no record asks
+//! for it again. Tests compare this with the plain model; the benchmark uses it
+//! as its measure.
 
+use crate::address::{guest_physical_page, LinearWidth};
 use crate::context::Context;
-use crate::event::{self, canonical, ep4ta, page, Event};
+use crate::event::{self, ep4ta, Event};
 use crate::judge::{grounds, needed, rule};
 use crate::lookup::Address;
 use crate::replay::Line;
 use crate::step::Step;
+use crate::widen::Widened;
 use crate::{LOG_LIMIT, TABLE_LIMIT};
 use std::ops::Range;
 
 /// The length of a record by its kind; 0 for what is no record.
-const LENGTH: [usize; 8] = [0, 17, 17, 22, 16, 17, 21, 0];
+const LENGTH: [usize; 16] = [0, 17, 17, 22, 16, 17, 21, 18, 23, 17, 22, 0, 0, 0, 0, 0];
 
 /// The place of a record's span byte by its kind. The page follows it.
-const SPAN_AT: [usize; 8] = [0, 6, 6, 6, 5, 6, 5, 0];
+const SPAN_AT: [usize; 16] = [0, 6, 6, 6, 5, 6, 5, 6, 6, 5, 5, 0, 0, 0, 0, 0];
 
 /// The place of a record's EP4TA by its kind; 0 if it has none.
-const EP4TA_AT: [usize; 8] = [0, 0, 1, 17, 0, 1, 16, 0];
+const EP4TA_AT: [usize; 16] = [0, 0, 1, 17, 0, 1, 16, 0, 18, 0, 17, 0, 0, 0, 0, 0];
+
+/// The bits of a record's page by its kind, in the eight bytes from its start.
+const PAGE_BITS: [u64; 16] = {
+    let mut bits = [(1 << 40) - 1; 16];
+    let mut kind = 7;
+    while kind <= 10 {
+        bits[kind] = (1 << 48) - 1;
+        kind += 1;
+    }
+    bits
+};
 
 /// For each kind and span, the bits of a record's first 16 bytes that must be
 /// zero. All that is ever wrong with a record shows there.
-const MUST_BE_ZERO: [[u128; 4]; 7] = must_be_zero();
+type Masks = [[u128; 5]; 11];
 
-const fn must_be_zero() -> [[u128; 4]; 7] {
-    let mut masks = [[0; 4]; 7];
-    let mut kind = 1;
-    while kind <= 6 {
+const MASKS_48: Masks = masks(&[1, 2, 3, 4, 5, 6]);
+const MASKS_57: Masks = masks(&[2, 5, 7, 8, 9, 10]);
+
+/// The masks of a width with these kinds.
+const fn masks(kinds: &[usize]) -> Masks {
+    // The kind byte is never zero, so no record of another kind passes.
+    let mut masks = [[0xFF; 5]; 11];
+    let mut next = 0;
+    while next < kinds.len() {
+        let kind = kinds[next];
         let mut span = 0;
-        while span <= 3 {
+        while span <= 4 {
             masks[kind][span] = mask(kind, span);
             span += 1;
         }
-        kind += 1;
+        next += 1;
     }
     masks
 }
 
 const fn mask(kind: usize, span: usize) -> u128 {
-    let impossible = if kind <= 3 { span == 3 } else { span == 0 };
+    let impossible = match kind {
+        1..=3 | 7 | 8 => span > 2,
+        4..=6 => span == 0 || span > 3,
+        _ => span == 0,
+    };
     if impossible {
-        // The kind byte is never zero, so no record passes.
+        // As for another kind.
         return 0xFF;
     }
     let page_bit = 8 * (SPAN_AT[kind] + 1);
     let unaligned = ((1 << (9 * span)) - 1) << page_bit;
-    let page_top = 0xF0 << (page_bit + 32);
+    let page_top = match kind {
+        1..=6 => 0xF0 << (page_bit + 32),
+        _ => 0xE0 << (page_bit + 40),
+    };
     let pcid_top = 0xF0 << 32;
     let global_top = 0xFE << 40;
     unaligned
         | page_top
         | match kind {
-            1 | 3 => pcid_top | global_top,
-            4 | 6 => pcid_top,
+            1 | 3 | 7 | 8 => pcid_top | global_top,
+            4 | 6 | 9 | 10 => pcid_top,
             _ => 0,
         }
 }
 
-/// The number of records in a table; None if it is not whole, valid records.
-fn count(table: &[u8]) -> Option<usize> {
-    let mut rest = table;
+/// The number of records in a table; None if it is not whole, valid records at
+/// this width.
+fn count(width: LinearWidth, table: &[u8]) -> Option<usize> {
     let mut count = 0;
+    judge(width, table, |_| count += 1).then_some(count)
+}
+
+/// Whether a table is whole, valid records at this width. Hands on the kind of
+/// each.
+#[inline(always)]
+fn judge(width: LinearWidth, table: &[u8], mut each: impl FnMut(usize)) -> bool {
+    let masks = match width {
+        LinearWidth::Bits48 => &MASKS_48,
+        LinearWidth::Bits57 => &MASKS_57,
+    };
+    let mut rest = table;
     // The shortest record has 16 bytes.
     while let Some(head) = rest.first_chunk::<16>() {
         let kind = usize::from(head[0]);
-        if kind == 0 || kind > 6 {
-            return None;
+        if kind == 0 || kind > 10 {
+            return false;
         }
         let span = usize::from(head[SPAN_AT[kind]]);
-        if span > 3 || u128::from_le_bytes(*head) & MUST_BE_ZERO[kind][span] != 0 {
-            return None;
+        if span > 4 || u128::from_le_bytes(*head) & masks[kind][span] != 0 {
+            return false;
         }
-        rest = rest.get(LENGTH[kind]..)?;
-        count += 1;
+        let Some(after) = rest.get(LENGTH[kind]..) else {
+            return false;
+        };
+        rest = after;
+        each(kind);
     }
-    rest.is_empty().then_some(count)
+    rest.is_empty()
 }
 
 /// A record of a valid table.
@@ -93,25 +137,25 @@ impl Record<'_> {
         self.0[0]
     }
 
-    /// Kinds 1, 3, 4, 6.
+    /// All kinds but 2 and 5.
     #[inline(always)]
     fn has_vpid(self) -> bool {
         !matches!(self.kind(), 2 | 5)
     }
 
-    /// Kinds 1 to 3.
+    /// Kinds 1 to 3, 7, 8.
     #[inline(always)]
     fn is_translation(self) -> bool {
-        self.kind() <= 3
+        matches!(self.kind(), 1..=3 | 7 | 8)
     }
 
-    /// Of kinds 1, 3, 4, 6.
+    /// Of kinds with a VPID.
     #[inline(always)]
     fn vpid(self) -> u64 {
         u16::from_le_bytes([self.0[1], self.0[2]]).into()
     }
 
-    /// Of kinds 1, 3, 4, 6.
+    /// Of kinds with a VPID.
     #[inline(always)]
     fn pcid(self) -> u64 {
         u16::from_le_bytes([self.0[3], self.0[4]]).into()
@@ -119,7 +163,7 @@ impl Record<'_> {
 
     #[inline(always)]
     fn global(self) -> bool {
-        matches!(self.kind(), 1 | 3) && self.0[5] == 1
+        matches!(self.kind(), 1 | 3 | 7 | 8) && self.0[5] == 1
     }
 
     #[inline(always)]
@@ -128,22 +172,32 @@ impl Record<'_> {
         u64::from(low) | u64::from(self.0[at + 4]) << 32
     }
 
-    /// Kinds 2, 3, 5, 6.
+    /// The page, of 5 bytes or 6. Three more bytes follow it at least.
     #[inline(always)]
-    fn has_ep4ta(self) -> bool {
-        !matches!(self.kind(), 1 | 4)
+    fn page(self, kind: usize) -> u64 {
+        let at = SPAN_AT[kind] + 1;
+        let mut word = [0; 8];
+        word.copy_from_slice(&self.0[at..at + 8]);
+        u64::from_le_bytes(word) & PAGE_BITS[kind]
     }
 
-    /// Of kinds 2, 3, 5, 6.
+    /// All kinds but 1, 4, 7, 9.
+    #[inline(always)]
+    fn has_ep4ta(self) -> bool {
+        !matches!(self.kind(), 1 | 4 | 7 | 9)
+    }
+
+    /// Of kinds with an EP4TA.
     #[inline(always)]
     fn ep4ta(self) -> u64 {
-        self.number(EP4TA_AT[usize::from(self.kind() & 7)])
+        self.number(EP4TA_AT[usize::from(self.kind() & 15)])
     }
 
     #[inline(always)]
     fn covers(self, page: u64) -> bool {
-        let at = SPAN_AT[usize::from(self.kind() & 7)];
-        (page ^ self.number(at + 1)) >> (9 * self.0[at]) == 0
+        let kind = usize::from(self.kind() & 15);
+        let at = SPAN_AT[kind];
+        (page ^ self.page(kind)) >> (9 * self.0[at]) == 0
     }
 
     #[inline(always)]
@@ -156,7 +210,7 @@ impl Record<'_> {
 #[inline(always)]
 fn first(rest: &[u8]) -> Option<Record<'_>> {
     let kind = *rest.first()?;
-    rest.get(..LENGTH[usize::from(kind & 7)]).map(Record)
+    rest.get(..LENGTH[usize::from(kind & 15)]).map(Record)
 }
 
 /// Writes the records that are not in scope, run by run. Hands back their
@@ -194,10 +248,11 @@ pub fn step(context: &Context, table: &[u8], event: &[u8], new: &mut [u8]) -> St
     if table.len() > TABLE_LIMIT {
         return Step::refused(2, context);
     }
-    let Some(count) = count(table) else {
+    let width = context.linear();
+    let Some(count) = count(width, table) else {
         return Step::refused(3, context);
     };
-    let Some(decoded) = Event::decode(event) else {
+    let Some(decoded) = Event::decode(width, event) else {
         return Step::refused(4, context);
     };
     let grounds = grounds(context, &decoded);
@@ -230,6 +285,7 @@ fn write(
     decoded: &Event,
     new: &mut [u8],
 ) -> (usize, usize) {
+    let width = context.linear();
     let keep_all = |new: &mut [u8]| (copy(new, 0, table), 0);
     match *decoded {
         Event::Creation(_) => {
@@ -240,7 +296,7 @@ fn write(
         Event::Reset => (0, count),
         Event::Invvpid { kind, low, high } => {
             let vpid = low & 0xFFFF;
-            let page = page(high);
+            let page = width.page(high);
             match kind {
                 0 => sweep(table, new, |r| {
                     r.has_vpid() && r.vpid() == vpid && r.covers(page)
@@ -257,8 +313,8 @@ fn write(
             sweep(table, new, |r| r.has_ep4ta() && r.ep4ta() == named)
         }
         Event::Invept { .. } => sweep(table, new, |r| r.has_ep4ta()),
-        Event::Invlpg { address } if canonical(address) => {
-            let page = page(address);
+        Event::Invlpg { address } if width.canonical(address) => {
+            let page = width.page(address);
             sweep(table, new, |r| {
                 r.has_vpid() && r.current(context) && (!r.is_translation() || r.covers(page))
             })
@@ -274,7 +330,7 @@ fn write(
         Event::Invpcid { kind, low, high } => {
             let vpid = context.vpid();
             let pcid = low & 0xFFF;
-            let page = page(high);
+            let page = width.page(high);
             match kind {
                 0 => sweep(table, new, |r| {
                     r.has_vpid()
@@ -313,11 +369,11 @@ fn violation(
 ) -> (usize, usize) {
     let (vpid, pcid) = (context.vpid(), context.pcid);
     let current = context.ep4ta().unwrap_or(u64::MAX);
-    let guest_page = page(guest_physical);
-    // No record covers a page of 2^36 or more.
-    let linear_page = linear.map_or(u64::MAX, page);
+    let guest_page = guest_physical_page(guest_physical);
+    // No record covers a page of 2^45 or more.
+    let linear_page = linear.map_or(u64::MAX, |address| context.linear().page(address));
     sweep(table, new, |r| match r.kind() {
-        1 | 4 => false,
+        1 | 4 | 7 | 9 => false,
         2 | 5 => r.ep4ta() == current && r.covers(guest_page),
         _ => r.vpid() == vpid && r.pcid() == pcid && r.ep4ta() == current && r.covers(linear_page),
     })
@@ -336,31 +392,32 @@ pub fn lookup(
     if table.len() > TABLE_LIMIT {
         return (2, None);
     }
-    if count(table).is_none() {
+    if count(context.linear(), table).is_none() {
         return (3, None);
     }
     (0, find(context, table, address, k))
 }
 
 fn find(context: &Context, table: &[u8], address: Address, k: u64) -> Option<Range<usize>> {
+    let width = context.linear();
     match (address, context.ep4ta()) {
-        (Address::Linear(address), None) if canonical(address) => {
-            let page = page(address);
+        (Address::Linear(address), None) if width.canonical(address) => {
+            let page = width.page(address);
             search(table, k, |r| {
-                matches!(r.kind(), 1 | 4) && r.current(context) && r.covers(page)
+                matches!(r.kind(), 1 | 4 | 7 | 9) && r.current(context) && r.covers(page)
             })
         }
-        (Address::Linear(address), Some(current)) if canonical(address) => {
-            let page = page(address);
+        (Address::Linear(address), Some(current)) if width.canonical(address) => {
+            let page = width.page(address);
             search(table, k, |r| {
-                matches!(r.kind(), 3 | 6)
+                matches!(r.kind(), 3 | 6 | 8 | 10)
                     && r.current(context)
                     && r.ep4ta() == current
                     && r.covers(page)
             })
         }
         (Address::GuestPhysical(address), Some(current)) if address < 1 << 48 => {
-            let page = page(address);
+            let page = guest_physical_page(address);
             search(table, k, |r| {
                 !r.has_vpid() && r.ep4ta() == current && r.covers(page)
             })
@@ -385,11 +442,12 @@ fn search(table: &[u8], k: u64, usable: impl Fn(Record) -> bool) -> Option<Range
     None
 }
 
-/// As [`crate::replay()`], in two lent buffers, with each line handed on as
-/// it comes. False, and no line, if the log is too long. Buffers of
-/// `TABLE_LIMIT` bytes or more give the program's lines; with shorter ones
+/// As [`crate::replay()`] from any context, in two lent buffers, with each line
+/// handed on as it comes. False, and no line, if the log is too long. Buffers
+/// of `TABLE_LIMIT` bytes or more give the program's lines; with shorter ones
 /// there is less room.
 pub fn replay<'a>(
+    start: &Context,
     log: &[u8],
     mut old: &'a mut [u8],
     mut new: &'a mut [u8],
@@ -398,10 +456,10 @@ pub fn replay<'a>(
     if log.len() > LOG_LIMIT {
         return false;
     }
-    let mut context = Context::program();
+    let mut context = *start;
     let (mut rest, mut number, mut length) = (log, 0, 0);
     while let Some(kind) = rest.first() {
-        let whole = event::length(*kind).filter(|length| *length <= rest.len());
+        let whole = event::length(context.linear(), *kind).filter(|length| *length <= rest.len());
         let (event, after) = rest.split_at(whole.unwrap_or(rest.len()));
         let step = step(&context, &old[..length], event, new);
         if step.answer == 0 {
@@ -422,4 +480,72 @@ pub fn replay<'a>(
         rest = after;
     }
     true
+}
+
+/// As [`crate::widen()`].
+pub fn widen(table: &[u8], new: &mut [u8]) -> Widened {
+    if table.len() > TABLE_LIMIT {
+        return Widened::refused(2);
+    }
+    let mut length = table.len();
+    let gain = |kind| length += widened_length(kind) - LENGTH[kind];
+    if !judge(LinearWidth::Bits48, table, gain) {
+        return Widened::refused(3);
+    }
+    if new.len().min(TABLE_LIMIT) < length {
+        return Widened::refused(12);
+    }
+    write_widened(table, &mut new[..length]);
+    Widened { answer: 0, length }
+}
+
+/// The kind at 57 bits by that at 48.
+const WIDENED: [u8; 16] = [0, 7, 2, 8, 9, 5, 10, 0, 0, 0, 0, 0, 0, 0, 0, 0];
+
+/// The length of a record at 57 bits by its kind at 48.
+#[inline(always)]
+fn widened_length(kind: usize) -> usize {
+    LENGTH[usize::from(WIDENED[kind])]
+}
+
+/// Writes the new table of a valid one; it has just the room that it needs.
+fn write_widened(table: &[u8], new: &mut [u8]) {
+    let (mut from, mut to) = (0, 0);
+    // 24 bytes at once: what is too much, the next record is written over.
+    while let (Some(old), Some(wide)) = (
+        table[from..].first_chunk::<24>(),
+        new[to..].first_chunk_mut::<24>(),
+    ) {
+        let kind = usize::from(old[0] & 15);
+        put_widened(kind, old, wide);
+        from += LENGTH[kind];
+        to += widened_length(kind);
+    }
+    while let Some(record) = first(&table[from..]) {
+        let kind = usize::from(record.kind() & 15);
+        let (mut old, mut wide) = ([0; 24], [0; 24]);
+        old[..record.0.len()].copy_from_slice(record.0);
+        put_widened(kind, &old, &mut wide);
+        let end = to + widened_length(kind);
+        new[to..end].copy_from_slice(&wide[..end - to]);
+        from += record.0.len();
+        to = end;
+    }
+}
+
+/// The record at the start of these bytes, and anything behind it. A page of
+/// the upper half gains bits 36 to 44: four of its fifth byte, five of its sixth.
+#[inline(always)]
+fn put_widened(kind: usize, old: &[u8; 24], wide: &mut [u8; 24]) {
+    *wide = *old;
+    if kind == 2 || kind == 5 {
+        return;
+    }
+    let end = SPAN_AT[kind] + 6;
+    let upper_half = old[end - 1] & 0x08 != 0;
+    let (fifth, sixth) = if upper_half { (0xF0, 0x1F) } else { (0, 0) };
+    wide[0] = WIDENED[kind];
+    wide[end - 1] |= fifth;
+    wide[end] = sixth;
+    wide[end + 1..end + 11].copy_from_slice(&old[end..end + 10]);
 }

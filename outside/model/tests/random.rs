@@ -3,8 +3,8 @@
 
 use generate::{case, events, filling_log, hex, log, query, removal, start, Rng};
 use model::book::Book;
-use model::{lookup, replay, step, tuned, usable, Address, Context, Line, TABLE_LIMIT};
-use model::{PROGRAM_CAPABILITY, PROGRAM_WIDTH};
+use model::replay::lines;
+use model::{lookup, replay, step, tuned, usable, widen, Address, Context, Line, TABLE_LIMIT};
 
 const SEED: u64 = 20_260_101;
 
@@ -82,7 +82,14 @@ fn near_events_all() {
         for near in generate::near_contexts(&context) {
             let expected = step(&near, &table, &[25], &mut new);
             assert_eq!(expected, tuned::step(&near, &table, &[25], &mut other));
-            assert_eq!(expected.answer, if near.in_range() { 0 } else { 1 });
+            if !near.in_range() {
+                assert_eq!(expected.answer, 1);
+            } else if near.linear_width == context.linear_width {
+                assert_eq!(expected.answer, 0);
+            } else {
+                // Of the other width, unless all are of kinds 2 and 5.
+                assert!(expected.answer == 0 || expected.answer == 3);
+            }
         }
     }
 }
@@ -94,9 +101,9 @@ struct Run {
 }
 
 impl Run {
-    fn new(capability: u64, width: u64) -> Run {
+    fn new(start: &Context) -> Run {
         Run {
-            context: Context::after_reset(capability, width),
+            context: *start,
             table: Vec::new(),
         }
     }
@@ -120,10 +127,10 @@ fn runs_against_the_book() {
     let mut rng = Rng::new(SEED);
     let mut dropped = 0;
     for number in 0..60 {
-        let (capability, width) = start(&mut rng);
-        let mut run = Run::new(capability, width);
-        let mut book = Book::new(capability, width);
-        for event in events(&mut rng, 250) {
+        let start = start(&mut rng);
+        let mut run = Run::new(&start);
+        let mut book = Book::new(&start);
+        for event in events(&mut rng, start.linear_width, 250) {
             let room = TABLE_LIMIT + rng.below(3);
             let got = run.feed(&event, room);
             let verdict = book.feed(&event);
@@ -145,11 +152,13 @@ fn second_runs() {
     println!("seed {SEED}");
     let mut rng = Rng::new(SEED);
     for number in 0..60 {
-        let (capability, width) = start(&mut rng);
-        let mut first = Run::new(capability, width);
-        let mut second = Run::new(capability, width);
-        for event in events(&mut rng, 200) {
-            let addresses: Vec<Address> = (0..4).map(|_| generate::address(&mut rng)).collect();
+        let start = start(&mut rng);
+        let width = start.linear_width;
+        let mut first = Run::new(&start);
+        let mut second = Run::new(&start);
+        for event in events(&mut rng, width, 200) {
+            let addresses: Vec<Address> =
+                (0..4).map(|_| generate::address(&mut rng, width)).collect();
             in_order_parts(&first, &second, &addresses);
             second.table = removal(&mut rng, &second.table);
             in_order_parts(&first, &second, &addresses);
@@ -182,19 +191,19 @@ fn parts(run: &Run, address: Address) -> Vec<&[u8]> {
         .collect()
 }
 
-fn tuned_replay(log: &[u8]) -> Option<Vec<Line>> {
+fn tuned_replay(start: &Context, log: &[u8]) -> Option<Vec<Line>> {
     let (mut old, mut new) = (vec![0; TABLE_LIMIT], vec![0; TABLE_LIMIT]);
     let mut lines = Vec::new();
-    tuned::replay(log, &mut old, &mut new, |line| lines.push(line)).then_some(lines)
+    tuned::replay(start, log, &mut old, &mut new, |line| lines.push(line)).then_some(lines)
 }
 
 /// The lines by the book: a third way to the same output.
-fn book_replay(log: &[u8]) -> Vec<Line> {
-    let mut book = Book::new(PROGRAM_CAPABILITY, PROGRAM_WIDTH);
+fn book_replay(start: &Context, log: &[u8]) -> Vec<Line> {
+    let mut book = Book::new(start);
     let mut lines = Vec::new();
     let mut rest = log;
     while !rest.is_empty() {
-        let event = model::replay::first_event(rest);
+        let event = model::replay::first_event(start.linear(), rest);
         let verdict = book.feed(event.unwrap_or(rest));
         lines.push(Line {
             number: lines.len() as u64 + 1,
@@ -216,11 +225,20 @@ fn logs() {
     let mut rng = Rng::new(SEED);
     for number in 0..300 {
         let length = rng.below(3_000);
-        let log = log(&mut rng, length);
-        let expected = replay(&log);
-        let shown = || format!("seed {SEED}, log {number}: {}", hex(&log));
-        assert_eq!(expected, tuned_replay(&log), "{}", shown());
-        assert_eq!(expected, Some(book_replay(&log)), "{}", shown());
+        let start = start(&mut rng);
+        let log = log(&mut rng, start.linear_width, length);
+        for start in [start, Context::program()] {
+            let expected = lines(&start, &log);
+            let shown = || format!("seed {SEED}, log {number}, {start:x?}: {}", hex(&log));
+            assert_eq!(
+                Some(&expected),
+                tuned_replay(&start, &log).as_ref(),
+                "{}",
+                shown()
+            );
+            assert_eq!(expected, book_replay(&start, &log), "{}", shown());
+        }
+        assert_eq!(replay(&log), Some(lines(&Context::program(), &log)));
     }
 }
 
@@ -229,16 +247,47 @@ fn filling_logs() {
     println!("seed {SEED}");
     let mut rng = Rng::new(SEED);
     for number in 0..6 {
-        let log = filling_log(&mut rng);
-        let lines = tuned_replay(&log).unwrap();
-        assert!(lines.iter().any(|line| line.answer == 12));
-        assert!(lines
-            .iter()
-            .any(|line| line.length == TABLE_LIMIT || line.length > TABLE_LIMIT - 17));
-        // The plain model takes its time; one such log is enough.
-        if number == 0 {
-            assert_eq!(replay(&log), Some(lines.clone()), "seed {SEED}");
-            assert_eq!(book_replay(&log), lines, "seed {SEED}");
+        for linear_width in [48, 57] {
+            let start = Context {
+                linear_width,
+                ..Context::program()
+            };
+            let log = filling_log(&mut rng, linear_width);
+            let got = tuned_replay(&start, &log).unwrap();
+            assert!(got.iter().any(|line| line.answer == 12));
+            assert!(got
+                .iter()
+                .any(|line| line.length == TABLE_LIMIT || line.length > TABLE_LIMIT - 17));
+            // The plain model takes its time; one such log is enough.
+            if number == 0 {
+                assert_eq!(lines(&start, &log), got, "seed {SEED}");
+                assert_eq!(book_replay(&start, &log), got, "seed {SEED}");
+            }
         }
+    }
+}
+
+/// The plain converter against the tuned one, on tables and buffers of every
+/// sort.
+#[test]
+fn converters() {
+    println!("seed {SEED}");
+    let mut rng = Rng::new(SEED);
+    let mut reached = [0; 13];
+    for number in 0..20_000 {
+        let case = generate::widening(&mut rng);
+        let mut plain = case.new.clone();
+        let mut fast = case.new.clone();
+        let expected = widen(&case.table, &mut plain);
+        let got = tuned::widen(&case.table, &mut fast);
+        let shown = || format!("seed {SEED}, case {number}\n{case}");
+        assert_eq!(expected, got, "{}", shown());
+        assert_eq!(plain, fast, "{}", shown());
+        assert_eq!(plain[expected.length..], case.new[expected.length..]);
+        reached[expected.answer as usize] += 1;
+    }
+    println!("answers reached: {reached:?}");
+    for answer in [0, 2, 3, 12] {
+        assert!(reached[answer] > 500, "answer {answer}");
     }
 }

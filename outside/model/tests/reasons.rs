@@ -122,8 +122,8 @@ fn not_exactly_one_record_is_3_and_never_2() {
         bad.bytes(),
         vec![7; 17],
         RESET.to_vec(),
-        m(4).bytes().repeat(2_816),
-        m(4).bytes().repeat(2_817),
+        m(4).bytes().repeat(2_944),
+        m(4).bytes().repeat(2_945),
         vec![0; TABLE_LIMIT + 1],
         vec![0xFF; 100_000],
     ] {
@@ -142,6 +142,7 @@ fn every_context_field_is_looked_at_first() {
     for context in [
         with_width(root(), 35),
         with_cpl(root(), 4),
+        at_width(root(), 56),
         Context {
             pcid: 4_096,
             ..root()
@@ -670,7 +671,7 @@ fn in_scope_exactly_if_the_step_drops_the_record() {
         let step = step(&case.context, &case.record, &case.event, &mut new);
         if step.answer == 1 {
             assert_eq!(reason, Reason::refused(1), "{}", shown());
-        } else if Mapping::decode(&case.record).is_none() {
+        } else if Mapping::decode(case.context.linear(), &case.record).is_none() {
             assert_eq!(reason, Reason::refused(3), "{}", shown());
         } else {
             let dropped = step.answer == 0 && step.dropped == 1;

@@ -1,6 +1,7 @@
 //! What the replay program prints on one log, and what it should.
 
 use common::{hex, LOG_LIMIT};
+use model::LinearWidth;
 use std::io::Write;
 use std::process::{Command, Stdio};
 use std::thread;
@@ -39,7 +40,7 @@ pub fn printed(replay: &str, log: &[u8], piece: usize) -> Result<Vec<u8>, String
 /// known kinds.
 fn is_whole(log: &[u8]) -> bool {
     let mut rest = log;
-    while let Some(event) = model::replay::first_event(rest) {
+    while let Some(event) = model::replay::first_event(LinearWidth::Bits48, rest) {
         rest = &rest[event.len()..];
     }
     rest.is_empty() && log.len() <= LOG_LIMIT

@@ -17,13 +17,25 @@ pub fn every_kind(rng: &mut Rng) -> Vec<u8> {
     bytes
 }
 
-/// A log that fills the table to exactly 45,056 bytes with 2,816 structure caches, the last of them
+/// A log for each kind of 57-bit addresses, which is unknown: a whole record of it between other
+/// events.
+pub fn wide_kinds(rng: &mut Rng) -> [Vec<u8>; 4] {
+    [7, 8, 9, 10].map(|kind| {
+        let record = generate::event_of_kind(rng, &model::Context::program(), kind);
+        [&encode(4, &[0, 0, 1, 512, 9]), &record, &[22][..]].concat()
+    })
+}
+
+/// The lines that the papers give for each of these.
+pub const UNKNOWN: &str = "1 0 0 16\n2 4 0 16\n";
+
+/// A log that fills the table to exactly 47,104 bytes with 2,944 structure caches, the last of them
 /// under a PCID of its own, is refused one more, drops that one by INVLPG of a page that it does
 /// not cover, creates one again and is refused the next.
 pub fn full_to_the_byte() -> Vec<u8> {
     // VPID 0, span 1.
     let created = |pcid, i: u64| encode(4, &[0, pcid, 1, i * 512, 9]);
-    let mut bytes: Vec<u8> = (0..2815).flat_map(|i| created(0, i)).collect();
+    let mut bytes: Vec<u8> = (0..2943).flat_map(|i| created(0, i)).collect();
     // PCID 1, CPL 0.
     bytes.extend(encode(24, &[1, 0]));
     bytes.extend(created(1, 1));
@@ -35,5 +47,5 @@ pub fn full_to_the_byte() -> Vec<u8> {
 }
 
 /// The lines that the papers give for the end of that log.
-pub const FULL_END: &str = "2815 0 0 45040\n2816 0 0 45040\n2817 0 0 45056\n2818 12 0 45056\n\
-    2819 0 1 45040\n2820 0 0 45056\n2821 12 0 45056\n";
+pub const FULL_END: &str = "2943 0 0 47088\n2944 0 0 47088\n2945 0 0 47104\n2946 12 0 47104\n\
+    2947 0 1 47088\n2948 0 0 47104\n2949 12 0 47104\n";

@@ -5,10 +5,10 @@
 mod compare;
 mod logs;
 
-use common::LOG_LIMIT;
+use common::{LOG_LIMIT, PROGRAM_LINEAR_WIDTH};
 use compare::{compare, modelled, printed};
 use generate::{events, filling_log, log, Rng};
-use logs::{every_kind, full_to_the_byte, FULL_END};
+use logs::{every_kind, full_to_the_byte, wide_kinds, FULL_END, UNKNOWN};
 use std::path::Path;
 use std::process::ExitCode;
 use std::{env, fs};
@@ -48,17 +48,24 @@ fn run(replay: &str, examples: &Path) -> Result<usize, String> {
         )?;
         count += 1;
     }
+    for log in wide_kinds(&mut rng) {
+        let name = "a log with a kind of 57-bit addresses";
+        compare(replay, name, &log, 4096, UNKNOWN.as_bytes())?;
+        modelled(replay, name, &log, 1)?;
+        count += 2;
+    }
     for length in [0, 1, LOG_LIMIT - 1, LOG_LIMIT, LOG_LIMIT + 1, 70_000] {
         modelled(replay, "a log of resets", &vec![25; length], 4096)?;
         modelled(replay, "a log of random bytes", &rng.bytes(length), 1000)?;
         modelled(replay, "a log that ends early", &vec![0; length], LOG_LIMIT)?;
-        modelled(replay, "a log of events", &log(&mut rng, length), LOG_LIMIT)?;
+        let events = log(&mut rng, PROGRAM_LINEAR_WIDTH, length);
+        modelled(replay, "a log of events", &events, LOG_LIMIT)?;
         count += 4;
     }
     modelled(
         replay,
         "a log that fills the table",
-        &filling_log(&mut rng),
+        &filling_log(&mut rng, PROGRAM_LINEAR_WIDTH),
         LOG_LIMIT,
     )?;
     let full = full_to_the_byte();
@@ -76,10 +83,18 @@ fn run(replay: &str, examples: &Path) -> Result<usize, String> {
     count += 2;
     for _ in 0..60 {
         let length = rng.below(3000);
-        modelled(replay, "a log of events", &log(&mut rng, length), 512)?;
-        let whole: Vec<u8> = events(&mut rng, 60).concat();
+        let width = PROGRAM_LINEAR_WIDTH;
+        modelled(
+            replay,
+            "a log of events",
+            &log(&mut rng, width, length),
+            512,
+        )?;
+        let whole: Vec<u8> = events(&mut rng, width, 60).concat();
         modelled(replay, "a run", &whole, 64)?;
-        count += 2;
+        let wide = log(&mut rng, 57, length);
+        modelled(replay, "a log of 57-bit addresses", &wide, 512)?;
+        count += 3;
     }
     Ok(count)
 }

@@ -1,7 +1,7 @@
 //! Contexts, and the numbers that the C interface has for them.
 
 use crate::raw::FlatContext;
-use crate::{PROGRAM_CAPABILITY, PROGRAM_WIDTH};
+use crate::{PROGRAM_CAPABILITY, PROGRAM_LINEAR_WIDTH, PROGRAM_WIDTH};
 
 /// What of the processor matters besides the table. A field that is out of
 /// its range is answered 1.
@@ -11,6 +11,9 @@ pub struct Context {
     pub capability: u64,
     /// The physical width N: 36 to 52.
     pub width: u64,
+    /// The width of linear addresses: 48 or 57. It says which records a table
+    /// may hold; no event changes it.
+    pub linear_width: u64,
     /// 0 to 4,095.
     pub pcid: u64,
     /// 0 to 3.
@@ -34,10 +37,11 @@ pub enum Place {
 
 impl Context {
     /// The context after a reset: outside VMX, PCID 0, CPL 0.
-    pub fn after_reset(capability: u64, width: u64) -> Context {
+    pub fn after_reset(capability: u64, width: u64, linear_width: u64) -> Context {
         Context {
             capability,
             width,
+            linear_width,
             pcid: 0,
             cpl: 0,
             place: Place::Outside,
@@ -46,7 +50,7 @@ impl Context {
 
     /// The context from which the replay program starts.
     pub fn program() -> Context {
-        Context::after_reset(PROGRAM_CAPABILITY, PROGRAM_WIDTH)
+        Context::after_reset(PROGRAM_CAPABILITY, PROGRAM_WIDTH, PROGRAM_LINEAR_WIDTH)
     }
 }
 
@@ -61,6 +65,7 @@ impl From<&Context> for FlatContext {
         FlatContext {
             capability: context.capability,
             width: context.width,
+            linear_width: context.linear_width,
             pcid: context.pcid,
             cpl: context.cpl,
             place,
@@ -85,6 +90,7 @@ impl FlatContext {
         Some(Context {
             capability: self.capability,
             width: self.width,
+            linear_width: self.linear_width,
             pcid: self.pcid,
             cpl: self.cpl,
             place,

@@ -34,9 +34,13 @@
 //! assert_eq!(at(0x1234_6000), (0, None));
 //! ```
 //!
-//! Each function comes twice: on [`Context`], and as `.._flat` on the numbers
-//! of the C interface, [`FlatContext`], where a place may be any number too.
-//! [`raw`] has the C functions themselves.
+//! Each function that takes a context or hands one back comes twice: on
+//! [`Context`], and as `.._flat` on the numbers of the C interface,
+//! [`FlatContext`], where a place may be any number too. [`raw`] has the C
+//! functions themselves.
+//!
+//! A context has a linear width, 48 or 57 bits. [`widen`] makes a table of the
+//! second sort from a stored one of the first.
 
 mod context;
 mod logs;
@@ -45,12 +49,12 @@ mod reason;
 
 pub use context::{Context, Place};
 pub use logs::{event_length, events, lines, replay, replay_flat, Line, Replay};
-pub use raw::{FlatContext, FlatReason, FlatReplayed, FlatStep, Part};
+pub use raw::{FlatContext, FlatReason, FlatReplayed, FlatStep, Part, Widened};
 pub use reason::Reason;
 use std::ops::Range;
 
 /// The longest table, in bytes.
-pub const TABLE_LIMIT: usize = 45_056;
+pub const TABLE_LIMIT: usize = 47_104;
 
 /// The longest log that the replay program reads, in bytes.
 pub const LOG_LIMIT: usize = 65_536;
@@ -64,6 +68,9 @@ pub const PROGRAM_CAPABILITY: u64 = 0x0F01_0630_4140;
 
 /// The replay program's physical width N.
 pub const PROGRAM_WIDTH: u64 = 52;
+
+/// The replay program's linear width.
+pub const PROGRAM_LINEAR_WIDTH: u64 = 48;
 
 /// The folder in which the build found the library.
 pub const LIBRARY: &str = env!("SKULDREFN_LIB_FOUND");
@@ -187,4 +194,13 @@ pub fn explain_flat(context: &FlatContext, record: &[u8], event: &[u8]) -> FlatR
             event.len(),
         )
     }
+}
+
+/// A stored table of 48-bit linear addresses as one of 57, at the start of
+/// `new`: kinds 1, 3, 4 and 6 become 7, 8, 9 and 10, with a page of 6 bytes, to
+/// which 2^45 - 2^36 is added from 2^35 on, and kinds 2 and 5 stay. Bytes past the result stay; a refusal writes nothing.
+pub fn widen(table: &[u8], new: &mut [u8]) -> Widened {
+    // SAFETY: each pointer is good for its length during the call, `new` is
+    // borrowed alone, and the library keeps nothing.
+    unsafe { raw::skuldrefn_widen(table.as_ptr(), table.len(), new.as_mut_ptr(), new.len()) }
 }

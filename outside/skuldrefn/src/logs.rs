@@ -4,24 +4,25 @@ use crate::context::Context;
 use crate::raw::{self, FlatReplayed};
 use crate::{known, ROW, TABLE_LIMIT};
 
-/// How many bytes the kind of a log's first event says that it has; 0 for no
-/// byte and for an unknown kind. It is more than the log has where the record
-/// is cut.
-pub fn event_length(log: &[u8]) -> usize {
+/// How many bytes the kind of a log's first event says that it has at a linear
+/// width; 0 for no byte and for an unknown kind, as those of the other width
+/// are. It is more than the log has where the record is cut. Any linear width
+/// but 57 is read as 48.
+pub fn event_length(linear_width: u64, log: &[u8]) -> usize {
     // SAFETY: the log is good for its length during the call, and the library
     // keeps nothing.
-    unsafe { raw::skuldrefn_event_length(log.as_ptr(), log.len()) }
+    unsafe { raw::skuldrefn_event_length(linear_width, log.as_ptr(), log.len()) }
 }
 
-/// The events of a log, in order. The last has all bytes that are left where
-/// its kind is unknown or its record cut, as in a replay.
-pub fn events(log: &[u8]) -> impl Iterator<Item = &[u8]> {
+/// The events of a log at a linear width, in order. The last has all bytes that
+/// are left where its kind is unknown or its record cut, as in a replay.
+pub fn events(linear_width: u64, log: &[u8]) -> impl Iterator<Item = &[u8]> {
     let mut rest = log;
     std::iter::from_fn(move || {
         if rest.is_empty() {
             return None;
         }
-        let length = match event_length(rest) {
+        let length = match event_length(linear_width, rest) {
             0 => rest.len(),
             length => length.min(rest.len()),
         };
@@ -56,12 +57,20 @@ pub struct Replay {
 ///
 /// # Panics
 /// If the library hands back what its contract rules out.
-pub fn replay(capability: u64, width: u64, log: &[u8]) -> Replay {
+pub fn replay(capability: u64, width: u64, linear_width: u64, log: &[u8]) -> Replay {
     let mut first = vec![0; TABLE_LIMIT];
     let mut second = vec![0; TABLE_LIMIT];
     // An event has at least one byte.
     let mut rows = vec![0; ROW * log.len()];
-    let end = replay_flat(capability, width, log, &mut first, &mut second, &mut rows);
+    let end = replay_flat(
+        capability,
+        width,
+        linear_width,
+        log,
+        &mut first,
+        &mut second,
+        &mut rows,
+    );
     let mut table = if end.first == 1 { first } else { second };
     assert!(end.length <= table.len(), "a table longer than its buffer");
     table.truncate(end.length);
@@ -77,6 +86,7 @@ pub fn replay(capability: u64, width: u64, log: &[u8]) -> Replay {
 pub fn replay_flat(
     capability: u64,
     width: u64,
+    linear_width: u64,
     log: &[u8],
     first: &mut [u8],
     second: &mut [u8],
@@ -88,6 +98,7 @@ pub fn replay_flat(
         raw::skuldrefn_replay(
             capability,
             width,
+            linear_width,
             log.as_ptr(),
             log.len(),
             first.as_mut_ptr(),

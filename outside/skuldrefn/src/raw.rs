@@ -13,6 +13,7 @@
 pub struct FlatContext {
     pub capability: u64,
     pub width: u64,
+    pub linear_width: u64,
     pub pcid: u64,
     pub cpl: u64,
     pub place: u64,
@@ -63,6 +64,15 @@ pub struct FlatReplayed {
     pub count: usize,
 }
 
+/// What the converter reports: 0, 2, 3 or 12, and the new table's length, 0 on a
+/// refusal.
+#[repr(C)]
+#[derive(Clone, Copy, Debug, PartialEq, Eq)]
+pub struct Widened {
+    pub answer: u64,
+    pub length: usize,
+}
+
 extern "C" {
     pub fn skuldrefn_step(
         context: FlatContext,
@@ -98,11 +108,12 @@ extern "C" {
         event_length: usize,
     ) -> FlatReason;
 
-    pub fn skuldrefn_event_length(log: *const u8, log_length: usize) -> usize;
+    pub fn skuldrefn_event_length(linear_width: u64, log: *const u8, log_length: usize) -> usize;
 
     pub fn skuldrefn_replay(
         capability: u64,
         width: u64,
+        linear_width: u64,
         log: *const u8,
         log_length: usize,
         first: *mut u8,
@@ -112,4 +123,11 @@ extern "C" {
         rows: *mut u8,
         rows_length: usize,
     ) -> FlatReplayed;
+
+    pub fn skuldrefn_widen(
+        table: *const u8,
+        table_length: usize,
+        new_table: *mut u8,
+        new_length: usize,
+    ) -> Widened;
 }

@@ -1,13 +1,18 @@
-//! The wrapper itself: document 01's example, flat contexts, empty slices
-//! and null.
+//! The wrapper itself: document 01's example, flat contexts, 57-bit addresses,
+//! empty slices and null.
 
-use skuldrefn::{raw, Context, FlatContext, FlatReason, FlatStep, Place, Reason};
-use skuldrefn::{PROGRAM_CAPABILITY, PROGRAM_WIDTH};
+use skuldrefn::{raw, Address, Context, FlatContext, FlatReason, FlatStep, Place, Reason};
+use skuldrefn::{Widened, PROGRAM_CAPABILITY, PROGRAM_LINEAR_WIDTH, PROGRAM_WIDTH, TABLE_LIMIT};
 use std::ptr::{null, null_mut};
 
 const A: [u8; 17] = [
     0x01, 0x05, 0x00, 0x01, 0x00, 0x00, 0x00, 0x45, 0x23, 0x01, 0x00, 0x00, 0xDE, 0xBC, 0x0A, 0x00,
     0x00,
+];
+/// The same at 57 bits: kind 7, page 100000012345h.
+const W: [u8; 18] = [
+    0x07, 0x05, 0x00, 0x01, 0x00, 0x00, 0x00, 0x45, 0x23, 0x01, 0x00, 0x00, 0x10, 0xDE, 0xBC, 0x0A,
+    0x00, 0x00,
 ];
 const VMXON: [u8; 1] = [22];
 const RESET: [u8; 1] = [25];
@@ -87,7 +92,11 @@ fn contexts_there_and_back() {
         place: Place::Root,
         ..guest()
     };
-    for context in [Context::program(), root, guest(), guest_with_ept] {
+    let wide = Context {
+        linear_width: 57,
+        ..guest_with_ept
+    };
+    for context in [Context::program(), root, guest(), guest_with_ept, wide] {
         assert_eq!(FlatContext::from(&context).context(), Some(context));
     }
 }
@@ -241,6 +250,7 @@ fn null_with_length_0_elsewhere() {
         let end = raw::skuldrefn_replay(
             PROGRAM_CAPABILITY,
             PROGRAM_WIDTH,
+            PROGRAM_LINEAR_WIDTH,
             null(),
             0,
             null_mut(),
@@ -259,33 +269,120 @@ fn null_with_length_0_elsewhere() {
 fn the_events_of_a_log() {
     let exit = [21, 1, 0];
     let log = [&VMXON[..], &exit, &A, &RESET].concat();
-    let events: Vec<&[u8]> = skuldrefn::events(&log).collect();
+    let events: Vec<&[u8]> = skuldrefn::events(48, &log).collect();
     assert_eq!(events, [&VMXON[..], &exit, &A, &RESET]);
     // A cut record and an unknown kind take all that is left.
-    let cut: Vec<&[u8]> = skuldrefn::events(&log[..20]).collect();
+    let cut: Vec<&[u8]> = skuldrefn::events(48, &log[..20]).collect();
     assert_eq!(cut, [&VMXON[..], &exit, &A[..16]]);
-    let unknown: Vec<&[u8]> = skuldrefn::events(&[22, 0, 22, 22]).collect();
+    let unknown: Vec<&[u8]> = skuldrefn::events(48, &[22, 0, 22, 22]).collect();
     assert_eq!(unknown, [&[22][..], &[0, 22, 22]]);
-    assert_eq!(skuldrefn::events(&[]).count(), 0);
+    assert_eq!(skuldrefn::events(48, &[]).count(), 0);
+    // At 57 bits kind 1 is unknown, and kind 7 is not.
+    let log = [&VMXON[..], &W, &A].concat();
+    let wide: Vec<&[u8]> = skuldrefn::events(57, &log).collect();
+    assert_eq!(wide, [&VMXON[..], &W, &A]);
+    let narrow: Vec<&[u8]> = skuldrefn::events(48, &log).collect();
+    assert_eq!(narrow, [&VMXON[..], &log[1..]]);
 }
 
 #[test]
 fn the_length_of_an_event() {
-    assert_eq!(skuldrefn::event_length(&[]), 0);
-    assert_eq!(skuldrefn::event_length(&[0, 1, 2]), 0);
-    assert_eq!(skuldrefn::event_length(&[22, 0]), 1);
-    assert_eq!(skuldrefn::event_length(&A), 17);
+    for width in [48, 57, 0] {
+        assert_eq!(skuldrefn::event_length(width, &[]), 0);
+        assert_eq!(skuldrefn::event_length(width, &[0, 1, 2]), 0);
+        assert_eq!(skuldrefn::event_length(width, &[22, 0]), 1);
+        // SAFETY: null goes with length 0, which the header allows.
+        let length = unsafe { raw::skuldrefn_event_length(width, null(), 0) };
+        assert_eq!(length, 0);
+    }
+    assert_eq!(skuldrefn::event_length(48, &A), 17);
     // What the kind says, though the record is cut.
-    assert_eq!(skuldrefn::event_length(&A[..1]), 17);
-    // SAFETY: null goes with length 0, which the header allows.
-    assert_eq!(unsafe { raw::skuldrefn_event_length(null(), 0) }, 0);
+    assert_eq!(skuldrefn::event_length(48, &A[..1]), 17);
+    assert_eq!(skuldrefn::event_length(57, &W[..1]), 18);
+    // Of the other width.
+    assert_eq!(skuldrefn::event_length(57, &A), 0);
+    assert_eq!(skuldrefn::event_length(48, &W), 0);
+    assert_eq!(skuldrefn::event_length(56, &A), 17);
 }
 
 #[test]
 fn a_replay() {
-    let log = [&VMXON[..], &[21, 0, 0], &[9, 9]].concat();
-    let replay = skuldrefn::replay(PROGRAM_CAPABILITY, PROGRAM_WIDTH, &log);
-    let answers: Vec<u64> = replay.lines.iter().map(|line| line.answer).collect();
+    let replay = |width, log: &[u8]| {
+        let replay = skuldrefn::replay(PROGRAM_CAPABILITY, PROGRAM_WIDTH, width, log);
+        let answers: Vec<u64> = replay.lines.iter().map(|line| line.answer).collect();
+        (replay, answers)
+    };
+    let (end, answers) = replay(48, &[&VMXON[..], &[21, 0, 0], &[9, 9]].concat());
     assert_eq!(answers, [0, 9, 4]);
-    assert_eq!((replay.context.place, replay.table.len()), (Place::Root, 0));
+    assert_eq!((end.context.place, end.table.len()), (Place::Root, 0));
+    // At 57 bits, with VPID 0 and PCID 0.
+    let mut own = W;
+    own[1..5].fill(0);
+    let (end, answers) = replay(57, &[&own[..], &VMXON, &A, &VMXON].concat());
+    assert_eq!((answers, end.table), (vec![0, 0, 4], own.to_vec()));
+    assert_eq!(end.context.linear_width, 57);
+    let (end, answers) = replay(56, &[&A[..], &VMXON, &W, &VMXON].concat());
+    assert_eq!((answers, end.table.len()), (vec![1, 1, 1], 0));
+}
+
+/// A record of the other width is 3 in a table and 4 as an event.
+#[test]
+fn the_linear_width() {
+    let at = |linear_width| Context {
+        linear_width,
+        ..guest()
+    };
+    let mut new = [0xA5; 40];
+    for (width, event, answer) in [
+        (48, &A[..], 0),
+        (48, &W, 4),
+        (57, &W, 0),
+        (57, &A, 4),
+        (56, &A, 1),
+    ] {
+        let step = skuldrefn::step(&at(width), &[], event, &mut new);
+        assert_eq!(step.answer, answer);
+        assert_eq!(step.context, at(width));
+    }
+    let step =
+        |width, table: &[u8]| skuldrefn::step(&at(width), table, &RESET, &mut [0; 40]).answer;
+    assert_eq!(
+        [step(48, &A), step(48, &W), step(57, &W), step(57, &A)],
+        [0, 3, 0, 3]
+    );
+    // An address that is canonical at 57 bits alone.
+    let address = Address::Linear(0xFF00_0000_1234_5678);
+    assert_eq!(skuldrefn::lookup(&at(57), &W, address, 0), (0, Some(0..18)));
+    assert_eq!(skuldrefn::lookup(&at(48), &A, address, 0), (0, None));
+    let invlpg = [&[18], &0xFF00_0000_1234_5678_u64.to_le_bytes()[..]].concat();
+    let explain = |width, record: &[u8]| skuldrefn::explain(&at(width), record, &invlpg);
+    assert_eq!(explain(57, &W), Reason::InScope);
+    assert_eq!(explain(48, &A), Reason::NotCanonical);
+    assert_eq!(explain(48, &W), Reason::refused(3));
+}
+
+#[test]
+fn the_converter() {
+    let refused = |answer| Widened { answer, length: 0 };
+    let mut new = [0xA5; 40];
+    let widened = skuldrefn::widen(&A, &mut new);
+    assert_eq!((widened.answer, widened.length), (0, 18));
+    // Kind 7, and a sixth byte of the page.
+    assert_eq!(new[..18], [&[7], &A[1..12], &[0], &A[12..]].concat());
+    assert_eq!(new[18..], [0xA5; 22]);
+    let mut new = [0xA5; 17];
+    assert_eq!(skuldrefn::widen(&A, &mut new), refused(12));
+    assert_eq!(skuldrefn::widen(&W, &mut new), refused(3));
+    assert_eq!(skuldrefn::widen(&A[..16], &mut new), refused(3));
+    let long = vec![0; TABLE_LIMIT + 1];
+    assert_eq!(skuldrefn::widen(&long, &mut new), refused(2));
+    assert_eq!(new, [0xA5; 17]);
+    assert_eq!(skuldrefn::widen(&[], &mut []), refused(0));
+    // SAFETY: null goes with length 0, which the header allows.
+    unsafe {
+        let empty = raw::skuldrefn_widen(null(), 0, null_mut(), 0);
+        assert_eq!(empty, refused(0));
+        let no_room = raw::skuldrefn_widen(A.as_ptr(), 17, null_mut(), 0);
+        assert_eq!(no_room, refused(12));
+    }
 }

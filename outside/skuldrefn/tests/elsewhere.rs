@@ -6,11 +6,11 @@ use std::path::{Path, PathBuf};
 use std::process::{id, Command};
 
 const MAIN: &str = r#"
-use skuldrefn::{replay, Line, PROGRAM_CAPABILITY, PROGRAM_WIDTH};
+use skuldrefn::{replay, Line, PROGRAM_CAPABILITY, PROGRAM_LINEAR_WIDTH, PROGRAM_WIDTH};
 
 fn main() {
     let log = std::fs::read(std::env::args().nth(1).expect("a file")).expect("a log");
-    for line in replay(PROGRAM_CAPABILITY, PROGRAM_WIDTH, &log).lines {
+    for line in replay(PROGRAM_CAPABILITY, PROGRAM_WIDTH, PROGRAM_LINEAR_WIDTH, &log).lines {
         let Line { number, answer, dropped, length } = line;
         println!("{number} {answer} {dropped} {length}");
     }

@@ -3,10 +3,10 @@
 //! The answers, counts, tables and reasons below were written by hand from the documents; no model
 //! worked them out.
 
-use common::{encode, set_field, PROGRAM_CAPABILITY, PROGRAM_WIDTH};
+use common::{encode, set_field, PROGRAM_CAPABILITY, PROGRAM_LINEAR_WIDTH, PROGRAM_WIDTH};
 
-/// A context as its eight numbers: capability, N, PCID, CPL, place, VPID, EPT, EP4TA.
-pub type Context = [u64; 8];
+/// A context as its nine numbers: capability, N, linear width, PCID, CPL, place, VPID, EPT, EP4TA.
+pub type Context = [u64; 9];
 
 /// A step: what is given, the answer, the rule of the EPTP (document 02, Ask 6), the count of dropped
 /// records, the new table, and the context after it.
@@ -47,6 +47,15 @@ pub struct Reason {
     pub rule: u64,
 }
 
+/// A table for the converter of document 02, Ask 12: the answer, and the 57-bit table, with none for a
+/// refusal.
+pub struct Widening {
+    pub name: &'static str,
+    pub table: Vec<u8>,
+    pub answer: u64,
+    pub new: Vec<u8>,
+}
+
 /// A: linear translation, VPID 5, PCID 1, span 0, page 12345h, frame ABCDEh.
 const A: [u8; 17] = [
     0x01, 0x05, 0x00, 0x01, 0x00, 0x00, 0x00, 0x45, 0x23, 0x01, 0x00, 0x00, 0xDE, 0xBC, 0x0A, 0x00,
@@ -64,7 +73,7 @@ const NONE: [u8; 0] = [];
 const RESET: [u8; 1] = [25];
 
 /// A byte more than a table may have.
-static LONG: [u8; 45_057] = [0; 45_057];
+static LONG: [u8; 47_105] = [0; 47_105];
 
 // Records: VPID, PCID, global, span, page, where they have them.
 
@@ -82,6 +91,22 @@ fn linear_structure(vpid: u64, pcid: u64, span: u64, page: u64) -> Vec<u8> {
 
 fn combined_structure(vpid: u64, pcid: u64, span: u64, page: u64) -> Vec<u8> {
     encode(6, &[vpid, pcid, span, page, 9, EP4TA])
+}
+
+fn linear_57(vpid: u64, pcid: u64, global: u64, span: u64, page: u64) -> Vec<u8> {
+    encode(7, &[vpid, pcid, global, span, page, 0xABCDE])
+}
+
+fn combined_57(vpid: u64, pcid: u64, global: u64, span: u64, page: u64) -> Vec<u8> {
+    encode(8, &[vpid, pcid, global, span, page, 7, EP4TA])
+}
+
+fn linear_structure_57(vpid: u64, pcid: u64, span: u64, page: u64) -> Vec<u8> {
+    encode(9, &[vpid, pcid, span, page, 9])
+}
+
+fn combined_structure_57(vpid: u64, pcid: u64, span: u64, page: u64) -> Vec<u8> {
+    encode(10, &[vpid, pcid, span, page, 9, EP4TA])
 }
 
 /// A record of kind 3 with another EP4TA.
@@ -131,6 +156,7 @@ const fn at(pcid: u64, cpl: u64, place: u64, vpid: u64, ept: u64, ep4ta: u64) ->
     [
         PROGRAM_CAPABILITY,
         PROGRAM_WIDTH,
+        PROGRAM_LINEAR_WIDTH,
         pcid,
         cpl,
         place,
@@ -157,6 +183,12 @@ fn root_of_width(width: u64) -> Context {
 fn root_without_21() -> Context {
     let mut context = ROOT;
     context[0] &= !(1 << 21);
+    context
+}
+
+/// A context at a linear width.
+fn wide(linear_width: u64, mut context: Context) -> Context {
+    context[2] = linear_width;
     context
 }
 
@@ -304,7 +336,7 @@ pub fn steps() -> Vec<Step> {
         refuses("no room for the old table", ROOT, [A, A, A, A].concat(), RESET, 12),
         refuses("no room for a creation", GUEST, [A, A, A].concat(), A, 12),
         refuses("N = 53", root_of_width(53), [0x63], NONE, 1),
-        refuses("a table of 45,057 bytes", ROOT, LONG, RESET, 2),
+        refuses("a table of 47,105 bytes", ROOT, LONG, RESET, 2),
         refuses("a cut record", ROOT, &A[..16], RESET, 3),
         refuses("an empty event", ROOT, A, NONE, 4),
         refuses("VMXOFF outside VMX", OUTSIDE, A, [23], 5),
@@ -340,6 +372,67 @@ pub fn steps() -> Vec<Step> {
         accepts("Ask 6: INVEPT 2, a bad EPTP", ROOT, G, invept(2, 0x1234567019, 0), 1, NONE),
         refuses("Ask 6: entry, bit 7 of the EPTP", ROOT, A, entry(0, 0, 1, 0x123456709E, 1, 0), 10).by(4),
         refuses("Ask 6: entry with VPID 0 and a bad EPTP", ROOT, A, entry(1, 0, 1, 0x123456709E, 1, 0), 10),
+        refuses("Ask 12: linear width 56", wide(56, ROOT), NONE, RESET, 1),
+        refuses("Ask 12: kind 7 in a table at 48", ROOT, linear_57(5, 1, 0, 0, 0), RESET, 3),
+        refuses("Ask 12: A in a table at 57", wide(57, ROOT), A, RESET, 3),
+        refuses("Ask 12: kind 9 as an event at 48", GUEST, NONE, linear_structure_57(5, 1, 1, 0), 4),
+        refuses("Ask 12: A as an event at 57", wide(57, GUEST), NONE, A, 4),
+        accepts("Ask 12: creation of kind 8", wide(57, EPT_GUEST), G, combined_57(5, 1, 1, 2, 0), 0, [&G[..], &combined_57(5, 1, 1, 2, 0)].concat()),
+        accepts("Ask 12: creation of kind 9, span 4", wide(57, GUEST), NONE, linear_structure_57(5, 1, 4, 1 << 36), 0, linear_structure_57(5, 1, 4, 1 << 36)),
+        refuses("Ask 12: kind 10, span 5", wide(57, ROOT), combined_structure_57(5, 1, 5, 0), RESET, 3),
+        refuses("Ask 12: kind 7, page 2^45", wide(57, ROOT), linear_57(5, 1, 0, 0, 1 << 45), RESET, 3),
+        refuses("Ask 12: kind 5, span 4", wide(57, ROOT), encode(5, &[EP4TA, 4, 0, 9]), RESET, 3),
+        accepts("Ask 12: type 0, address 0000800000000000h at 57", wide(57, ROOT), linear_57(5, 1, 0, 0, 1 << 35), invvpid(0, 5, 0x800000000000), 1, NONE),
+        refuses("Ask 12: type 0, address 0100000000000000h", wide(57, ROOT), NONE, invvpid(0, 5, 1 << 56), 8),
+        accepts("Ask 12: type 0, the last page", wide(57, ROOT), combined_57(5, 1, 0, 0, (1 << 45) - 1), invvpid(0, 5, u64::MAX), 1, NONE),
+        accepts("Ask 12: type 3 spares a global of kind 7", wide(57, ROOT), [linear_57(5, 1, 1, 0, 0), combined_structure_57(5, 1, 1, 0)].concat(), invvpid(3, 5, 0), 1, linear_57(5, 1, 1, 0, 0)),
+        accepts("Ask 12: INVLPG takes structure caches of kind 9", wide(57, GUEST), linear_structure_57(5, 1, 1, 0), invlpg(1 << 48), 1, NONE),
+        accepts("Ask 12: EPT violation at 57", wide(57, EPT_GUEST), [&combined_57(5, 1, 0, 0, 1 << 44)[..], &G].concat(), violation(0x10000, 1, 0xFF00_0000_0000_0000), 2, NONE),
+        refuses("Ask 12: EPT violation, flag 1 and 2^56", wide(57, EPT_GUEST), NONE, violation(0, 1, 1 << 56), 4),
+        accepts("Ask 12: reset keeps the linear width", wide(57, ROOT), G, RESET, 1, NONE).then(wide(57, OUTSIDE)),
+    ]
+}
+
+/// Ask 12's converter, into a buffer of 64 bytes, a row for each.
+pub fn widenings() -> Vec<Widening> {
+    let row = |name, table: Vec<u8>, answer, new| Widening {
+        name,
+        table,
+        answer,
+        new,
+    };
+    let half = 1 << 35;
+    let gain = (1 << 45) - (1 << 36);
+    vec![
+        row("widen: nothing", vec![], 0, vec![]),
+        row(
+            "widen: A and G",
+            [A, G].concat(),
+            0,
+            [&linear_57(5, 1, 0, 0, 0x12345)[..], &G].concat(),
+        ),
+        row(
+            "widen: kind 3, page 2^35 - 1",
+            combined(5, 1, 1, 0, half - 1),
+            0,
+            combined_57(5, 1, 1, 0, half - 1),
+        ),
+        row(
+            "widen: kind 4, page 2^35",
+            linear_structure(5, 1, 3, half),
+            0,
+            linear_structure_57(5, 1, 3, half + gain),
+        ),
+        row(
+            "widen: kind 6, page 2^36 - 2^9",
+            combined_structure(5, 1, 1, (1 << 36) - (1 << 9)),
+            0,
+            combined_structure_57(5, 1, 1, (1 << 45) - (1 << 9)),
+        ),
+        row("widen: 47,105 bytes", LONG.to_vec(), 2, vec![]),
+        row("widen: a cut record", A[..16].to_vec(), 3, vec![]),
+        row("widen: kind 7", linear_57(5, 1, 0, 0, 0), 3, vec![]),
+        row("widen: no room", [A, G, G, A].concat(), 12, vec![]),
     ]
 }
 
@@ -353,6 +446,10 @@ pub fn lookups() -> Vec<Lookup> {
         finds("G at guest-physical 10000h", EPT_GUEST, [A, G].concat(), (2, 0x10000, 0), (0, 17), G),
         finds("G with EPT off", GUEST, [A, G].concat(), (2, 0x10000, 0), (0, 0), NONE),
         finds("an invalid table", GUEST, &A[..16], (1, 0x12345678, 0), (3, 0), NONE),
+        finds("Ask 12: kind 7 at FF00000000000000h", wide(57, GUEST), linear_57(5, 1, 0, 0, 1 << 44), (1, 0xFF00_0000_0000_0000, 0), (0, 0), linear_57(5, 1, 0, 0, 1 << 44)),
+        finds("Ask 12: nothing at 2^56", wide(57, GUEST), linear_57(5, 1, 0, 0, 1 << 44), (1, 1 << 56, 0), (0, 0), NONE),
+        finds("Ask 12: kind 10 behind kind 8", wide(57, EPT_GUEST), [combined_57(5, 1, 0, 0, 0), combined_structure_57(5, 1, 4, 0)].concat(), (1, 0, 1), (0, 23), combined_structure_57(5, 1, 4, 0)),
+        finds("Ask 12: G at 57", wide(57, EPT_GUEST), G, (2, 0x10000, 0), (0, 0), G),
     ]
 }
 
@@ -363,7 +460,7 @@ pub fn reasons() -> Vec<Reason> {
         gives("why: N = 53", root_of_width(53), A, invvpid(1, 5, 0), 1, 1),
         gives("why: no bytes", ROOT, NONE, invvpid(1, 5, 0), 1, 3),
         gives("why: two records", ROOT, [A, A].concat(), invvpid(1, 5, 0), 1, 3),
-        gives("why: 45,057 bytes", ROOT, LONG, invvpid(1, 5, 0), 1, 3),
+        gives("why: 47,105 bytes", ROOT, LONG, invvpid(1, 5, 0), 1, 3),
         gives("why: an empty event", ROOT, A, NONE, 1, 4),
         gives("why: type 4", ROOT, A, invvpid(4, 5, 0), 1, 8),
         gives("why: exit outside a guest", ROOT, A, exit(0), 1, 9),
@@ -408,6 +505,10 @@ pub fn reasons() -> Vec<Reason> {
         gives("why: MOV to CR3, a global of the new PCID", GUEST, linear(5, 2, 1, 0, 0), mov_to_cr3(2), 9, 0),
         gives("why: INVEPT 1, a bad EPTP", ROOT, G, invept(1, 0x123456709E, 0), 1, 8).by(4),
         gives("why: entry with VPID 0 and a bad EPTP", ROOT, A, entry(1, 0, 1, 0x123456709E, 1, 0), 1, 10),
+        gives("why: kind 7 at 48", ROOT, linear_57(5, 1, 0, 0, 0), RESET, 1, 3),
+        gives("why: INVVPID 3, a global of kind 8", wide(57, ROOT), combined_57(5, 1, 1, 0, 0), invvpid(3, 5, 0), 9, 0),
+        gives("why: INVVPID 0, kind 9 at another page", wide(57, ROOT), linear_structure_57(5, 1, 4, 0), invvpid(0, 5, 1 << 48), 8, 0),
+        gives("why: INVLPG of 2^56, kind 2", wide(57, GUEST), G, invlpg(1 << 56), 3, 0),
         gives("why: MOV to CR3, a structure cache of the new PCID", GUEST, linear_structure(5, 2, 1, 0), mov_to_cr3(2), 10, 0),
     ]
 }

@@ -1,8 +1,8 @@
 //! A card as the test program reads it, and the line that it prints.
 //!
 //! A card in `stdin` is the name's length (1 byte), the table's (2), a mode (0 step, 1 linear and 2
-//! guest-physical lookup, 3 reason), the context as eight 8-byte numbers (capability, N, PCID, CPL,
-//! place, VPID, EPT, EP4TA), the length of the event or question (2), then name, table, and the
+//! guest-physical lookup, 3 reason, 4 converter), the context as nine 8-byte numbers (capability, N,
+//! linear width, PCID, CPL, place, VPID, EPT, EP4TA; all 0 for the converter), the length of the event or question (2), then name, table, and the
 //! event, or for a lookup the address and k (8 bytes each). All numbers are little-endian.
 
 use crate::cards::{self, Context};
@@ -80,6 +80,19 @@ pub fn files() -> Files {
             stdout,
             "{}: {} {} {} ",
             reason.name, reason.reason, reason.answer, reason.rule
+        );
+    }
+    for widening in cards::widenings() {
+        card(&mut stdin, widening.name, 4, &[0; 9], &widening.table, &[]);
+        let mut buffer = widening.new.clone();
+        buffer.resize(ROOM, FILL);
+        let _ = writeln!(
+            stdout,
+            "{}: {} {} {}",
+            widening.name,
+            widening.answer,
+            widening.new.len(),
+            digits(&buffer)
         );
     }
     Files { stdin, stdout }

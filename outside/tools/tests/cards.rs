@@ -12,7 +12,7 @@ fn the_form_of_a_card() {
     let files = form::files();
     let name = b"A, G; INVVPID 1, VPID 5";
     let mut due = vec![name.len() as u8, 34, 0, 0];
-    for number in [0x0F01_0630_4140u64, 52, 0, 0, 1, 0, 0, 0] {
+    for number in [0x0F01_0630_4140u64, 52, 48, 0, 0, 1, 0, 0, 0] {
         due.extend(number.to_le_bytes());
     }
     due.extend([25, 0]);
@@ -22,7 +22,7 @@ fn the_form_of_a_card() {
     let event = [&[16, 1, 0, 0, 0, 0, 0, 0, 0, 5][..], &[0; 15]].concat();
     assert_eq!(rest[34..34 + 25], event);
     assert!(files.stdout.starts_with(
-        "A, G; INVVPID 1, VPID 5: 0 0 1 17 16497073209664 52 0 0 1 0 0 0 \
+        "A, G; INVVPID 1, VPID 5: 0 0 1 17 16497073209664 52 48 0 0 1 0 0 0 \
          0267452301000010000000002000000000eeeeeeee"
     ));
     let lookup = "\nA at 12345678h: 0 0 17 010500010000004523010000debc0a0000\n";
@@ -44,6 +44,7 @@ fn all_answers_and_reasons() {
     let mut names: Vec<&str> = steps.iter().map(|step| step.name).collect();
     names.extend(cards::lookups().iter().map(|lookup| lookup.name));
     names.extend(reasons.iter().map(|reason| reason.name));
+    names.extend(cards::widenings().iter().map(|widening| widening.name));
     let count = names.len();
     names.sort_unstable();
     names.dedup();

@@ -10,18 +10,18 @@ use Rattle.buffers.proofs.put_number.Statement.{statement}
 use Rattle.buffers.proofs.put_number.Tie as tie
 
 abbrev Inv-loop : tie.InvT-loop
-Inv-loop out₀ at x end to₀ rest₀ out to rest =
-    (to ≤ end) × (end ≤ length out) × (length out ≡ length out₀) × (put to (bytes (end - to) rest) out ≡ put at (bytes 8 x) out₀)
+Inv-loop out₀ at size x end to₀ rest₀ out to rest =
+    (to ≤ end) × (end ≤ length out) × (length out ≡ length out₀) × (put to (bytes (end - to) rest) out ≡ put at (bytes size x) out₀)
 
 abbrev μ-loop : tie.MeasureT-loop
-μ-loop out₀ at x end to₀ rest₀ out to rest = end - to
+μ-loop out₀ at size x end to₀ rest₀ out to rest = end - to
 
 add-end : tie.Need-add-end Inv-loop μ-loop
 add-end c = omega arith
 
 loop-holds : tie.Need-loop-holds Inv-loop μ-loop
 loop-holds c =
-    let all : c .args .at + 8 - c .args .at ≡ 8 = omega arith in
+    let all : c .args .at + c .args .size - c .args .at ≡ c .args .size = omega arith in
     (omega arith, omega arith, refl, rw all)
 
 cast-out : tie.Need-cast-out Inv-loop μ-loop
@@ -39,7 +39,7 @@ loop-less c = omega arith
 loop-again : tie.Need-loop-again Inv-loop μ-loop
 loop-again c =
     let l = c .before .loop in
-    let more = put-byte (l .to) (c .before .before .args .at + 8) (l .rest) (l .out) (omega arith) (omega arith) in
+    let more = put-byte (l .to) (c .before .before .args .at + c .before .before .args .size) (l .rest) (l .out) (omega arith) (omega arith) in
     (omega arith, simp length-set (omega arith), simp length-set (l .inv .2), more ∙ l .inv .3)
 
 same-length : tie.Need-same-length Inv-loop μ-loop
@@ -48,7 +48,7 @@ same-length c = c .before .loop .inv .2
 returns : tie.Need-returns Inv-loop μ-loop
 returns c =
     let l = c .before .loop in
-    sym (put-bytes-end (l .to) (c .before .before .args .at + 8) (l .rest) (l .out) (omega arith)) ∙ l .inv .3
+    (refl, sym (put-bytes-end (l .to) (c .before .before .args .at + c .before .before .args .size) (l .rest) (l .out) (omega arith)) ∙ l .inv .3)
 
 pub put-number-spec : {M : Type 1} → statement M
 put-number-spec =

@@ -20,7 +20,14 @@ held c =
 returns : tie.Need-returns
 unfolding event-in-range
 returns c =
-    rw (c .before .before .before .before .pre .1, event-creation _ (held (c .before) .known)) (c .is-in-ranges .ensures)
+    let entry = c .before .before .before .before .before .before in
+    rw (
+      entry .pre .1,
+      event-creation _ (held (c .before .before .before) .known),
+      c .before .before .is-in-ranges .ensures,
+      c .is-of-other-width .ensures,
+      c .before .kind .ensures,
+    )
 
 returns-2 : tie.Need-returns-2
 unfolding event-in-range
@@ -76,6 +83,8 @@ is-in-range-spec =
     (tie.spec
     (λ c. search needs)
     (λ c κs. held c)
+    (λ c κs. held (c .before))
+    (λ c κs. search needs)
     (λ c. search needs)
     (λ c κs. search needs)
     (λ c. search needs)

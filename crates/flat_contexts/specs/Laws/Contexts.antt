@@ -7,11 +7,12 @@ use Rattle.model.specs.declared.Place.{Place}
 use Rattle.model.specs.declared.Place.the-variants.{Outside, Root, Guest}
 use Rattle.model.specs.declared.Ept.{Ept}
 use Rattle.model.specs.declared.Ept.the-variants.{Off, On}
+use Rattle.model.specs.Context.{moved}
 use Rattle.flat_contexts.specs.Contexts.{is-known, unflatten, flatten-guest, flatten-at, flatten}
 
 -- the context with a place
 abbrev at : Context → Place → Context
-at c place = record { capability = c .capability; width = c .width; pcid = c .pcid; cpl = c .cpl; place = place }
+at c place = moved c (c .pcid) (c .cpl) place
 
 unflatten-guest : (c : Context) (vpid : ℕ) (ept : Ept) → unflatten (flatten-guest c vpid ept) ≡ at c (Guest (record { vpid = vpid; ept = ept }))
 unfolding unflatten

@@ -1,4 +1,4 @@
--- The kinds with a mark, by number.
+-- The kinds by number.
 use mathlib.Core.Path.{sym}
 use Rattle.laws.specs.Mappings.{global-marked-numbers}
 use Rattle.kinds.proofs.is_global_marked.Statement.{statement}

@@ -1,4 +1,4 @@
--- The kinds of the sort, by number.
+-- The kinds by number.
 use mathlib.Core.Path.{sym}
 use Rattle.laws.specs.Mappings.{guest-physical-numbers}
 use Rattle.kinds.proofs.is_guest_physical.Statement.{statement}

@@ -1,4 +1,4 @@
--- The kinds of structure caches, by number.
+-- The kinds by number.
 use mathlib.Core.Path.{sym}
 use Rattle.laws.specs.Mappings.{structure-cache-range}
 use Rattle.kinds.proofs.is_structure_cache.Statement.{statement}

@@ -14,14 +14,14 @@ use Rattle.logs.proofs.advance.Tie as tie
 
 -- the size, and that the event lies within the log
 size : (c : tie.After-size-of-event)
-    → c .size-of-event .result ≡ event-size (drop (c .before .before .before .before .before .before .args .p .at) (now (c .before .before .before .before .before .before .args .log)))
+    → c .size-of-event .result ≡ event-size (c .before .before .before .before .before .before .args .width) (drop (c .before .before .before .before .before .before .args .p .at) (now (c .before .before .before .before .before .before .args .log)))
 size c = rw rest-of-drop at (c .size-of-event .ensures)
 
 within : (c : tie.After-size-of-event)
     → c .before .before .before .before .before .before .args .p .at + c .size-of-event .result ≤ length (now (c .before .before .before .before .before .before .args .log))
 within c =
     let s = c .before .before .before .before .before .before in
-    rw (size c) (event-size-within (now (s .args .log)) (s .args .p .at) (s .pre .1) .1)
+    rw (size c) (event-size-within (s .args .width) (now (s .args .log)) (s .args .p .at) (s .pre .1) .1)
 
 add-end : tie.Need-add-end
 add-end c = omega (arith, within c)
@@ -29,11 +29,16 @@ add-end c = omega (arith, within c)
 part-apply-end : tie.Need-part-apply-end
 part-apply-end c = omega (arith, within c)
 
+add-count : tie.Need-add-t13
+add-count c =
+    let s = c .before .before .before .before .before .before .before .before .before .before .before .before .before .before .before .before in
+    record { fits = omega (arith, s .pre .0 .few, s .pre .1, s .good) }
+
 returns : tie.Need-returns
 returns c =
     let t = c .before .before .before .before .before .before .before .before .before .before in
     let s = t .before .before .before .before .before .before in
-    let part : s .args .p .at + t .size-of-event .result - s .args .p .at ≡ event-size (drop (s .args .p .at) (now (s .args .log))) = omega (arith, size t) in
+    let part : s .args .p .at + t .size-of-event .result - s .args .p .at ≡ event-size (s .args .width) (drop (s .args .p .at) (now (s .args .log))) = omega (arith, size t) in
     advances (s .pre .0) (s .pre .1) (rw part at (c .before .before .before .before .before .before .apply .ensures)) (rw (size t))
 
 pub advance-spec : {M : Type 1} → statement M
@@ -49,7 +54,7 @@ advance-spec =
     (λ c. search needs)
     part-apply-end
     (λ c κs. search needs)
-    (λ c. search needs)
+    add-count
     (λ c. search needs)
     (λ c. search needs)
     returns)

@@ -13,7 +13,7 @@ returns c =
     let one = two .before .before .before .before in
     let s = one .before .before .before in
     let l : Line = record { answer = s .args .answer; dropped = s .args .dropped; length = s .args .size } in
-    put-row (s .args .at) l (now (s .args .out)) (s .pre) _ _ _ (one .put-number .ensures) (two .put-number2 .ensures) (three .put-number3 .ensures)
+    put-row (s .args .at) l (now (s .args .out)) (s .pre) _ _ _ (one .put-number .ensures .1) (two .put-number2 .ensures .1) (three .put-number3 .ensures .1)
 
 pub put-row-spec : {M : Type 1} → statement M
 put-row-spec =

@@ -13,10 +13,10 @@ use Rattle.logs.proofs.replay.Statement.{statement}
 use Rattle.logs.proofs.replay.Tie as tie
 
 abbrev Inv-loop : tie.InvT-loop
-Inv-loop log first₀ second₀ rows₀ most p₀ first second rows p = Replaying p₀ log first₀ second₀ rows₀ most p first second rows
+Inv-loop log first₀ second₀ rows₀ width most p₀ first second rows p = Replaying width p₀ log first₀ second₀ rows₀ most p first second rows
 
 abbrev μ-loop : tie.MeasureT-loop
-μ-loop log first₀ second₀ rows₀ most p₀ first second rows p = length log - p .at
+μ-loop log first₀ second₀ rows₀ width most p₀ first second rows p = length log - p .at
 
 loop-holds : tie.Need-loop-holds Inv-loop μ-loop
 unfolding begun
@@ -24,7 +24,7 @@ loop-holds c =
     let a = c .before .before .before .before .before .args in
     let ready : Ready (c .start .result) (now (a .log)) (now (a .first)) (now (a .second)) =
     rw (c .start .ensures) (ready-begun (a .c) (now (a .log)) (now (a .first)) (now (a .second))) in
-    replaying-start (c .start .result) (now (a .log)) (now (a .first)) (now (a .second)) (now (a .rows)) _ (rw (c .start .ensures)) ready
+    replaying-start _ (c .start .result) (now (a .log)) (now (a .first)) (now (a .second)) (now (a .rows)) _ (rw (c .start .ensures)) ready
 
 -- in a turn there is an event, and room for its row
 goes : (c : tie.Then1 Inv-loop μ-loop)
@@ -55,7 +55,7 @@ loop-again : tie.Need-loop-again Inv-loop μ-loop
 loop-again c =
     let d = c .before .before .before .before .before .before .before .before .before .before in
     let t = d .before .before .before in
-    replaying-turn (t .before .before .before .loop .inv) (omega arith) (goes t) (d .advance .ensures) (d .advance .kept .1 .1 .0) (d .advance .kept .1 .1 .1 .0) (c .before .before .put-row .ensures)
+    replaying-turn (t .before .before .before .loop .inv) (omega arith) (goes t) (d .advance .ensures) (d .advance .kept .1 .1 .1 .0) (d .advance .kept .1 .1 .1 .1 .0) (c .before .before .put-row .ensures)
 
 same-length : tie.Need-same-length Inv-loop μ-loop
 same-length c = c .before .before .before .before .before .loop .inv .taking .first
@@ -71,7 +71,7 @@ returns c =
     let l = c .before .before .before .before .before .loop in
     let s = c .before .before .before .before .before .before in
     let a = s .before .before .before .before .before .args in
-    let none = none-from (now (a .log)) (l .p .at) (l .p .count) (length (now (a .rows)) / 24) (c .before .before .if1 .left) in
+    let none = none-from _ (now (a .log)) (l .p .at) (l .p .count) (length (now (a .rows)) / 24) (c .before .before .if1 .left) in
     let inv = rw (s .start .ensures) at (l .inv) in
     let done = replays (a .c) (now (a .log)) (now (a .first)) (now (a .second)) (now (a .rows)) (taking-end (inv .taking) none) (written-end (inv .rows) none) in
     (done, by-the-book done)

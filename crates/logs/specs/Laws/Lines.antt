@@ -40,7 +40,7 @@ pub by-the-book : {c : Context} {log a b out : List ℕ} {r : Replayed} {a′ b�
     → limit ≤ length b
     → ByTheBook c log out r a′ b′ out′
 by-the-book {c} {log} {a} {b} {out} p h k =
-    let es = replayed log (length out) in
+    let es = replayed (c .«linear_width») log (length out) in
     let begun = follows-started c a b h k in
     let done = follows-of (started c a b) (opened c) es begun in
     let lines = follows-lines (started c a b) (opened c) es begun in

@@ -29,15 +29,15 @@ unfolding begun run-at started
 run-at-begun c a b = refl
 
 -- the event at the position, on the state
-pub advances : {p : Progress} {log a b : List ℕ} {r : Applied} {a′ b′ : List ℕ} → Ready p log a b → p .at < length log
-    → Applies (p .state) (event-at log (p .at)) a b r a′ b′
-    → {end : ℕ} → end ≡ p .at + event-size (drop (p .at) log)
-    → Advances p log a b
+pub advances : {w : ℕ} {p : Progress} {log a b : List ℕ} {r : Applied} {a′ b′ : List ℕ} → Ready p log a b → p .at < length log
+    → Applies (p .state) (event-at w log (p .at)) a b r a′ b′
+    → {end : ℕ} → end ≡ p .at + event-size w (drop (p .at) log)
+    → Advances w p log a b
     (record { progress = record { state = r .state; at = end; count = p .count + 1 }; answer = r .answer; dropped = r .dropped })
     a′
     b′
-advances {p} {log} ready more done is =
-    let within = event-size-within log (p .at) more in
+advances {w} {p} {log} ready more done is =
+    let within = event-size-within w log (p .at) more in
     record {
       ready = record { held = done .held; inside = omega (arith, within); few = omega (arith, within, ready .few) };
       run = done .run;
@@ -48,8 +48,8 @@ advances {p} {log} ready more done is =
       dropped = done .dropped;
     }
 
-pub at-increases : {p : Progress} {log a b : List ℕ} {r : Advanced} {a′ b′ : List ℕ} → p .at < length log → Advances p log a b r a′ b′ → p .at < r .progress .at
-at-increases {p} {log} more done = omega (arith, done .at, event-size-within log (p .at) more)
+pub at-increases : {w : ℕ} {p : Progress} {log a b : List ℕ} {r : Advanced} {a′ b′ : List ℕ} → p .at < length log → Advances w p log a b r a′ b′ → p .at < r .progress .at
+at-increases {w} {p} {log} more done = omega (arith, done .at, event-size-within w log (p .at) more)
 
 -- a loop that takes events as long as there are some, and at most so many
 pub record Going (log : List ℕ) (at count most : ℕ) : Type 0 where
@@ -61,17 +61,17 @@ going log at count most h =
     let both = and-eq-true-iff (ltb at (length log)) (ltb count most) .0 h in
     record { more = ltb-true at (length log) (both .0); fewer = ltb-true count most (both .1) }
 
-pub none-from : (log : List ℕ) (at count most : ℕ) → (ltb at (length log) && ltb count most) ≡ false
-    → events-from log at (most - count) ≡ []
-none-from log at count most h = go (ltb at (length log)) (ltb count most) refl refl h
+pub none-from : (w : ℕ) (log : List ℕ) (at count most : ℕ) → (ltb at (length log) && ltb count most) ≡ false
+    → events-from w log at (most - count) ≡ []
+none-from w log at count most h = go (ltb at (length log)) (ltb count most) refl refl h
   where
     go : (more fewer : Bool) → ltb at (length log) ≡ more → ltb count most ≡ fewer → (more && fewer) ≡ false
-        → events-from log at (most - count) ≡ []
+        → events-from w log at (most - count) ≡ []
     go true true p q h = absurd (false≢true (sym h))
     go true false p q h =
         let none : most - count ≡ 0 = omega (arith, ltb-false count most q) in
-        rw none (events-from-none log at)
-    go false fewer p q h = events-from-end log at (most - count) (ltb-false at (length log) p)
+        rw none (events-from-none w log at)
+    go false fewer p q h = events-from-end w log at (most - count) (ltb-false at (length log) p)
 
 -- the line of an event
 abbrev pub line-of : Advanced → Line
@@ -79,37 +79,37 @@ line-of r = record { answer = r .answer; dropped = r .dropped; length = r .progr
 
 -- what holds before each event: with the n events that are left, the replay ends where the first `most` from
 -- its start end
-pub record Taking (from : Progress) (log a b : List ℕ) (most : ℕ) (p : Progress) (n : ℕ) (a′ b′ : List ℕ) : Type 0 where
+pub record Taking (w : ℕ) (from : Progress) (log a b : List ℕ) (most : ℕ) (p : Progress) (n : ℕ) (a′ b′ : List ℕ) : Type 0 where
   pub ready : Ready p log a′ b′
   pub first : length a′ ≡ length a
   pub second : length b′ ≡ length b
-  pub run : run-of (run-at (p .state) a′ b′) (events-from log (p .at) n) ≡ run-of (run-at (from .state) a b) (events-from log (from .at) most)
-  pub side : side-ended (p .state .first) (run-at (p .state) a′ b′) (events-from log (p .at) n)
-      ≡ side-ended (from .state .first) (run-at (from .state) a b) (events-from log (from .at) most)
-  pub at : p .at + length (joined (events-from log (p .at) n)) ≡ from .at + length (joined (events-from log (from .at) most))
-  pub count : p .count + length (events-from log (p .at) n) ≡ from .count + length (events-from log (from .at) most)
+  pub run : run-of (run-at (p .state) a′ b′) (events-from w log (p .at) n) ≡ run-of (run-at (from .state) a b) (events-from w log (from .at) most)
+  pub side : side-ended (p .state .first) (run-at (p .state) a′ b′) (events-from w log (p .at) n)
+      ≡ side-ended (from .state .first) (run-at (from .state) a b) (events-from w log (from .at) most)
+  pub at : p .at + length (joined (events-from w log (p .at) n)) ≡ from .at + length (joined (events-from w log (from .at) most))
+  pub count : p .count + length (events-from w log (p .at) n) ≡ from .count + length (events-from w log (from .at) most)
 
-pub taking-start : {p : Progress} {log a b : List ℕ} (most : ℕ) → Ready p log a b → Taking p log a b most p most a b
+pub taking-start : {w : ℕ} {p : Progress} {log a b : List ℕ} (most : ℕ) → Ready p log a b → Taking w p log a b most p most a b
 taking-start most ready =
     record { ready = ready; first = refl; second = refl; run = refl; side = refl; at = refl; count = refl }
 
 -- one event more, and its line
-module _ {p : Progress} {log a b : List ℕ} (n : ℕ) (more : p .at < length log) {r : Advanced} {a′ b′ : List ℕ} (done : Advances p log a b r a′ b′) where
-  next : events-from log (p .at) (suc n) ≡ event-at log (p .at) ∷ events-from log (r .progress .at) n
-  next = rw (done .at) (events-from-cons log (p .at) n more)
+module _ {w : ℕ} {p : Progress} {log a b : List ℕ} (n : ℕ) (more : p .at < length log) {r : Advanced} {a′ b′ : List ℕ} (done : Advances w p log a b r a′ b′) where
+  next : events-from w log (p .at) (suc n) ≡ event-at w log (p .at) ∷ events-from w log (r .progress .at) n
+  next = rw (done .at) (events-from-cons w log (p .at) n more)
 
-  pub lines-next : run-lines (run-at (p .state) a b) (events-from log (p .at) (suc n))
-      ≡ line-of r ∷ run-lines (run-at (r .progress .state) a′ b′) (events-from log (r .progress .at) n)
+  pub lines-next : run-lines (run-at (p .state) a b) (events-from w log (p .at) (suc n))
+      ≡ line-of r ∷ run-lines (run-at (r .progress .state) a′ b′) (events-from w log (r .progress .at) n)
   unfolding run-lines run-line
   lines-next =
       rw (next, ← (done .answer), ← (done .dropped), ← (done .run), length-run-at (r .progress .state) a′ b′ (done .ready .held))
 
-  pub taking-turn : {from : Progress} {a₀ b₀ : List ℕ} {most : ℕ} → Taking from log a₀ b₀ most p (suc n) a b → length a′ ≡ length a
+  pub taking-turn : {from : Progress} {a₀ b₀ : List ℕ} {most : ℕ} → Taking w from log a₀ b₀ most p (suc n) a b → length a′ ≡ length a
       → length b′ ≡ length b
-      → Taking from log a₀ b₀ most (r .progress) n a′ b′
+      → Taking w from log a₀ b₀ most (r .progress) n a′ b′
   unfolding run-of side-ended joined
   taking-turn t keeps-a keeps-b =
-      let rest = events-from log (r .progress .at) n in
+      let rest = events-from w log (r .progress .at) n in
       let at = rw next at (t .at) in
       let count = rw next at (t .count) in
       record {
@@ -118,13 +118,13 @@ module _ {p : Progress} {log a b : List ℕ} (n : ℕ) (more : p .at < length lo
         second = keeps-b ∙ t .second;
         run = rw (done .run) (rw next at (t .run));
         side = rw (done .run, done .side) (rw next at (t .side));
-        at = omega (arith, at, done .at, length-append (event-at log (p .at)) (joined rest), length-event-at log (p .at));
+        at = omega (arith, at, done .at, length-append (event-at w log (p .at)) (joined rest), length-event-at w log (p .at));
         count = omega (arith, count, done .count);
       }
 
 -- the end
-pub taking-end : {from p : Progress} {log a b a′ b′ : List ℕ} {most n : ℕ} → Taking from log a b most p n a′ b′ → events-from log (p .at) n ≡ []
-    → Progresses from log a b most p a′ b′
+pub taking-end : {w : ℕ} {from p : Progress} {log a b a′ b′ : List ℕ} {most n : ℕ} → Taking w from log a b most p n a′ b′ → events-from w log (p .at) n ≡ []
+    → Progresses w from log a b most p a′ b′
 unfolding run-of side-ended joined
 taking-end t none =
     record {

@@ -19,27 +19,27 @@ use Rattle.logs.specs.Laws.State.{length-run-at}
 use Rattle.logs.specs.Laws.Progress.{line-of, lines-next, Going, Taking, taking-start, taking-turn}
 
 -- the rows written so far, with those that are left, are the rows of all
-pub record Written (all : List ℕ) (log out : List ℕ) (p : Progress) (n : ℕ) (a b out′ : List ℕ) : Type 0 where
+pub record Written (w : ℕ) (all : List ℕ) (log out : List ℕ) (p : Progress) (n : ℕ) (a b out′ : List ℕ) : Type 0 where
   pub written : List ℕ
-  pub whole : all ≡ written ++ rows (run-lines (run-at (p .state) a b) (events-from log (p .at) n))
+  pub whole : all ≡ written ++ rows (run-lines (run-at (p .state) a b) (events-from w log (p .at) n))
   pub size : length written ≡ row-length * p .count
   pub fits : row-length * p .count ≤ length out
   pub buffer : out′ ≡ put 0 written out
 
-pub length-written : {all log out : List ℕ} {p : Progress} {n : ℕ} {a b out′ : List ℕ} → Written all log out p n a b out′ → length out′ ≡ length out
+pub length-written : {w : ℕ} {all log out : List ℕ} {p : Progress} {n : ℕ} {a b out′ : List ℕ} → Written w all log out p n a b out′ → length out′ ≡ length out
 length-written {out = out} w = ap length (w .buffer) ∙ length-put 0 (w .written) out (omega (arith, w .size, w .fits))
 
-pub written-start : (log out : List ℕ) (p : Progress) (n : ℕ) (a b : List ℕ) → p .count ≡ 0
-    → Written (rows (run-lines (run-at (p .state) a b) (events-from log (p .at) n))) log out p n a b out
-written-start log out p n a b none =
+pub written-start : (w : ℕ) (log out : List ℕ) (p : Progress) (n : ℕ) (a b : List ℕ) → p .count ≡ 0
+    → Written w (rows (run-lines (run-at (p .state) a b) (events-from w log (p .at) n))) log out p n a b out
+written-start w log out p n a b none =
     record { written = []; whole = refl; size = omega arith; fits = omega arith; buffer = sym (put-nil 0 out) }
 
 -- one event, of which a row was put behind the others
-pub written-turn : {all log out : List ℕ} {p : Progress} {n : ℕ} {a b out′ : List ℕ} → Written all log out p (suc n) a b out′ → p .at < length log
+pub written-turn : {w : ℕ} {all log out : List ℕ} {p : Progress} {n : ℕ} {a b out′ : List ℕ} → Written w all log out p (suc n) a b out′ → p .at < length log
     → row-length * (p .count + 1) ≤ length out
-    → {r : Advanced} {a′ b′ : List ℕ} → Advances p log a b r a′ b′
+    → {r : Advanced} {a′ b′ : List ℕ} → Advances w p log a b r a′ b′
     → {out″ : List ℕ} → out″ ≡ put (row-length * p .count) (row (line-of r)) out′
-    → Written all log out (r .progress) n a′ b′ out″
+    → Written w all log out (r .progress) n a′ b′ out″
 unfolding rows
 written-turn {n = n} w more fits {r} done wrote =
     record {
@@ -51,8 +51,8 @@ written-turn {n = n} w more fits {r} done wrote =
     }
 
 -- the end
-pub written-end : {all log out : List ℕ} {p : Progress} {n : ℕ} {a b out′ : List ℕ} → Written all log out p n a b out′
-    → events-from log (p .at) n ≡ []
+pub written-end : {w : ℕ} {all log out : List ℕ} {p : Progress} {n : ℕ} {a b out′ : List ℕ} → Written w all log out p n a b out′
+    → events-from w log (p .at) n ≡ []
     → out′ ≡ put 0 all out
 unfolding run-lines rows
 written-end {out = out} w none =
@@ -60,23 +60,23 @@ written-end {out = out} w none =
     w .buffer ∙ ap (λ (xs : List ℕ). put 0 xs out) (sym (whole ∙ append-nil (w .written)))
 
 -- what holds before each event, where there is room for at most so many rows
-pub record Replaying (from : Progress) (log a b out : List ℕ) (most : ℕ) (p : Progress) (a′ b′ out′ : List ℕ) : Type 0 where
-  pub taking : Taking from log a b most p (most - p .count) a′ b′
-  pub rows : Written (rows (run-lines (run-at (from .state) a b) (events-from log (from .at) most))) log out p (most - p .count) a′ b′ out′
+pub record Replaying (w : ℕ) (from : Progress) (log a b out : List ℕ) (most : ℕ) (p : Progress) (a′ b′ out′ : List ℕ) : Type 0 where
+  pub taking : Taking w from log a b most p (most - p .count) a′ b′
+  pub rows : Written w (rows (run-lines (run-at (from .state) a b) (events-from w log (from .at) most))) log out p (most - p .count) a′ b′ out′
 
-pub replaying-start : (p : Progress) (log a b out : List ℕ) (most : ℕ) → p .count ≡ 0 → Ready p log a b → Replaying p log a b out most p a b out
-replaying-start p log a b out most none ready =
+pub replaying-start : (w : ℕ) (p : Progress) (log a b out : List ℕ) (most : ℕ) → p .count ≡ 0 → Ready p log a b → Replaying w p log a b out most p a b out
+replaying-start w p log a b out most none ready =
     let all : most - p .count ≡ most = omega arith in
-    record { taking = rw all (taking-start most ready); rows = rw all (written-start log out p most a b none) }
+    record { taking = rw all (taking-start most ready); rows = rw all (written-start w log out p most a b none) }
 
-pub replaying-turn : {from : Progress} {log a b out : List ℕ} {most : ℕ} {p : Progress} {a′ b′ out′ : List ℕ} → Replaying from log a b out most p a′ b′ out′
+pub replaying-turn : {w : ℕ} {from : Progress} {log a b out : List ℕ} {most : ℕ} {p : Progress} {a′ b′ out′ : List ℕ} → Replaying w from log a b out most p a′ b′ out′
     → row-length * most ≤ length out
     → Going log (p .at) (p .count) most
-    → {r : Advanced} {a″ b″ : List ℕ} → Advances p log a′ b′ r a″ b″
+    → {r : Advanced} {a″ b″ : List ℕ} → Advances w p log a′ b′ r a″ b″
     → length a″ ≡ length a′
     → length b″ ≡ length b′
     → {out″ : List ℕ} → out″ ≡ put (row-length * p .count) (row (line-of r)) out′
-    → Replaying from log a b out most (r .progress) a″ b″ out″
+    → Replaying w from log a b out most (r .progress) a″ b″ out″
 replaying-turn {most = most} {p} t room g {r} done keeps-a keeps-b wrote =
     let n = most - r .progress .count in
     let left : most - p .count ≡ suc n = omega (arith, g .fewer, done .count) in
@@ -87,8 +87,8 @@ replaying-turn {most = most} {p} t room g {r} done keeps-a keeps-b wrote =
 
 -- a replay from a reset, of as many events as there is room for rows
 pub replays : (c : Context) (log a b out : List ℕ) {p : Progress} {a′ b′ out′ : List ℕ}
-    → Progresses (begun c) log a b (length out / row-length) p a′ b′
-    → out′ ≡ put 0 (rows (run-lines (run-at (begun c .state) a b) (events-from log (begun c .at) (length out / row-length)))) out
+    → Progresses (c .«linear_width») (begun c) log a b (length out / row-length) p a′ b′
+    → out′ ≡ put 0 (rows (run-lines (run-at (begun c .state) a b) (events-from (c .«linear_width») log (begun c .at) (length out / row-length)))) out
     → Replays c log a b out
     (record { context = p .state .context; length = p .state .length; first = p .state .first; count = p .count })
     a′
@@ -99,7 +99,7 @@ replays c log a b out {p} {a′} {b′} done wrote =
     record {
       context = ap (λ (x : Run). x .context) (done .run);
       size = sym (length-run-at (p .state) a′ b′ (done .ready .held)) ∙ ap (λ (x : Run). length (x .table)) (done .run);
-      count = omega (arith, done .count, length-run-lines (started c a b) (replayed log (length out)));
+      count = omega (arith, done .count, length-run-lines (started c a b) (replayed (c .«linear_width») log (length out)));
       first = done .side;
       table = ap (λ (x : Run). x .table) (done .run);
       front = ap (λ (x : Run). x .front) (done .run);

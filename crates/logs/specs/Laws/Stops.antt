@@ -14,17 +14,17 @@ use Rattle.laws.specs.Events.{valid-event-parts}
 use Rattle.laws.specs.Answers.{answer-not-1, answer-not-2, answer-not-3}
 use Rattle.runs.specs.Runs.{Run, started, run-answer, run-after}
 use Rattle.runs.specs.Laws.Steps.{by-answer, run-answer-is, run-after-accepted, run-after-refused, run-accepted-valid, Tabled, tabled-started, tabled-after, Sound, sound-started, sound-after, room-refuses-creations}
-use Rattle.logs.specs.Logs.{program, event-size, events-within, events-of}
+use Rattle.logs.specs.Logs.{program, program-width, event-size, events-within, events-of}
 use Rattle.logs.specs.Replays.{run-lines}
 use Rattle.logs.specs.Stops.{EachAnswered, stopping-lines, NoStop}
 
 -- ---- whatever the buffers are
 
 run-not-2 : (s : Run) (e : List ℕ) → Tabled s → run-answer s e ≡ 2 → ⊥
-run-not-2 s e k h = answer-not-2 (s .context) (s .table) e (length (s .back)) (k .whole) (k .short) (sym (run-answer-is s e) ∙ h)
+run-not-2 s e k h = answer-not-2 (s .context) (s .table) e (length (s .back)) (k .valid) (k .short) (sym (run-answer-is s e) ∙ h)
 
 run-not-3 : (s : Run) (e : List ℕ) → Tabled s → run-answer s e ≡ 3 → ⊥
-run-not-3 s e k h = answer-not-3 (s .context) (s .table) e (length (s .back)) (k .whole) (k .short) (sym (run-answer-is s e) ∙ h)
+run-not-3 s e k h = answer-not-3 (s .context) (s .table) e (length (s .back)) (k .valid) (k .short) (sym (run-answer-is s e) ∙ h)
 
 lines-same : (s : Run) (es : List (List ℕ)) → Tabled s → stopping-lines s es ≡ run-lines s es
 unfolding stopping-lines run-lines
@@ -34,13 +34,13 @@ lines-same s (e ∷ es) k =
 
 -- ---- a log of bytes, from a context in its ranges
 
-events-bytes : (n : ℕ) (log : List ℕ) → Bytes log → Every Bytes (events-within n log)
+events-bytes : (w : ℕ) (n : ℕ) (log : List ℕ) → Bytes log → Every Bytes (events-within w n log)
 unfolding events-within
-events-bytes zero log h = none
-events-bytes (suc n) [] h = none
-events-bytes (suc n) (b ∷ bs) h =
-    more (every-take (event-size (b ∷ bs)) h)
-    (events-bytes n (drop (event-size (b ∷ bs)) (b ∷ bs)) (every-drop (event-size (b ∷ bs)) h))
+events-bytes w zero log h = none
+events-bytes w (suc n) [] h = none
+events-bytes w (suc n) (b ∷ bs) h =
+    more (every-take (event-size w (b ∷ bs)) h)
+    (events-bytes w n (drop (event-size w (b ∷ bs)) (b ∷ bs)) (every-drop (event-size w (b ∷ bs)) h))
 
 pub context-after : (s : Run) (e : List ℕ) → Bytes e → in-range (s .context) ≡ true → in-range (run-after s e .context) ≡ true
 context-after s e bytes fits = by-answer (run-answer s e) accepted (λ some. rw (run-after-refused s e some) fits)
@@ -48,7 +48,7 @@ context-after s e bytes fits = by-answer (run-answer s e) accepted (λ some. rw 
     accepted : run-answer s e ≡ 0 → in-range (run-after s e .context) ≡ true
     accepted h =
         rw (run-after-accepted s e h)
-        (next-context-in-range (s .context) (event e) (vpid-of-event e bytes) (valid-event-parts e (run-accepted-valid s e h) .fields) fits)
+        (next-context-in-range (s .context) _ (event e) (vpid-of-event e bytes) (valid-event-parts _ e (run-accepted-valid s e h) .fields) fits)
 
 each-answered : (s : Run) (es : List (List ℕ)) → Every Bytes es → Sound s → in-range (s .context) ≡ true → EachAnswered s es
 unfolding EachAnswered
@@ -56,7 +56,7 @@ each-answered s [] none sound fits = tt
 each-answered s (e ∷ es) (more bytes others) sound fits =
     let tabled = sound .tabled in (
       record {
-        not-1 = λ h. answer-not-1 (s .context) (s .table) e (length (s .back)) (tabled .whole) (tabled .short) fits (sym (run-answer-is s e) ∙ h);
+        not-1 = λ h. answer-not-1 (s .context) (s .table) e (length (s .back)) (tabled .valid) (tabled .short) fits (sym (run-answer-is s e) ∙ h);
         not-2 = run-not-2 s e tabled;
         not-3 = run-not-3 s e tabled;
         creations-alone = room-refuses-creations s e sound;
@@ -68,6 +68,6 @@ pub no-stop-holds : NoStop
 unfolding started after-reset in-range events-of
 no-stop-holds =
     record {
-      answers = λ log a b bytes h k. each-answered (started program a b) (events-of log) (events-bytes (length log) log bytes) (sound-started program a b h k) refl;
+      answers = λ log a b bytes h k. each-answered (started program a b) (events-of program-width log) (events-bytes program-width (length log) log bytes) (sound-started program a b h k) refl;
       lines = λ c a b es. lines-same (started c a b) es (tabled-started c a b);
     }

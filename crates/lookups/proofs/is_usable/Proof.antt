@@ -33,7 +33,7 @@ returns-2 c =
       c .before .before .is-guest-physical .ensures,
       c .before .before .before .kind .ensures,
       c .before .before .before .before .is-covering2 .ensures,
-      c5 .page2 .ensures,
+      c5 .guest-physical-page .ensures,
       c5 .before .before .before .before .ept .ensures,
     )
 

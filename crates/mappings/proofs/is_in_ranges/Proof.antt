@@ -1,54 +1,21 @@
--- A span out of its range decides; else the tests of the other fields do.
-use borrow.Author.Needs.{needs}
 use mathlib.Core.Path.{_≡_, sym, _∙_}
-use native.Mathlib.Omega.{arith}
-use borrow.Author.Tests.{not-true, not-false}
+use borrow.Author.Needs.{needs}
 use denote.Ref.{now}
-use Rattle.model.specs.Mappings.{mapping, span-in-range}
-use Rattle.laws.specs.Mappings.{held-length}
-use Rattle.mappings.specs.Laws.Ranges.{span-below, ranges-off, ranges-tests}
+use Rattle.model.specs.Layouts.{kind-of}
+use Rattle.model.specs.Mappings.{mapping, wide}
 use Rattle.mappings.proofs.is_in_ranges.Statement.{statement}
 use Rattle.mappings.proofs.is_in_ranges.Tie as tie
 
--- what the test of the span says
-said : (c : tie.After-is-span) → c .is-span .result ≡ span-in-range (mapping (now (c .before .before .before .before .args .part)) .kind) (mapping (now (c .before .before .before .before .args .part)) .span)
-said c = rw (c .before .before .kind .ensures, c .before .span .ensures) at (c .is-span .ensures)
-
-is-span-requires : tie.Need-is-span-requires
+-- what the test of the kind says
+said : (c : tie.After-is-wide) → c .is-wide .result ≡ wide (kind-of (now (c .before .before .before .args .part)))
 unfolding mapping
-is-span-requires c κs = rw (c .before .kind .ensures) (c .before .before .before .pre .known)
+said c = rw (c .before .kind .ensures) at (c .is-wide .ensures)
 
-returns : tie.Need-returns
-returns c = sym (ranges-off _ (sym (said (c .before)) ∙ not-true _ (c .if1 .taken)))
+wide-requires : tie.Need-is-wide-in-ranges-requires
+wide-requires c κs = (c .before .before .before .before .pre, sym (said (c .before)) ∙ c .if1 .taken)
 
-number1-requires : tie.Need-number1-requires
-number1-requires c κs = omega (arith, held-length _ (c .before .before .before .before .before .pre))
-
-number2-requires : tie.Need-number2-requires
-number2-requires c κs = omega (arith, held-length _ (c .before .before .before .before .before .before .pre))
-
-is-page-requires : tie.Need-is-page-requires
-is-page-requires c κs =
-    let c4 = c .before .before .before .before .before in
-    let c3 = c4 .before in
-    span-below (c3 .before .before .kind .result) _ (sym (c3 .is-span .ensures) ∙ not-false _ (c4 .if1 .left))
-
-returns-2 : tie.Need-returns-2
-returns-2 c =
-    let c4 = c .before .before .before .before .before .before in
-    let c3 = c4 .before in
-    let on = sym (said c3) ∙ not-false _ (c4 .if1 .left) in
-    rw (
-      c .is-page .ensures,
-      c .before .is-guest-physical .ensures,
-      c .before .before .is-global-marked .ensures,
-      c .before .before .before .page .ensures,
-      c .before .before .before .before .number2 .ensures .0,
-      c .before .before .before .before .before .number1 .ensures .0,
-      c3 .before .span .ensures,
-      c3 .before .before .kind .ensures,
-    )
-    (ranges-tests _ (c3 .before .before .before .before .pre) on)
+narrow-requires : tie.Need-is-narrow-in-ranges-requires
+narrow-requires c κs = (c .before .before .before .before .pre, sym (said (c .before)) ∙ c .if1 .left)
 
 pub is-in-ranges-spec : {M : Type 1} → statement M
 is-in-ranges-spec =
@@ -56,12 +23,7 @@ is-in-ranges-spec =
     (tie.spec
     (λ c κs. search needs)
     (λ c κs. search needs)
-    is-span-requires
-    returns
-    number1-requires
-    number2-requires
-    (λ c κs. search needs)
-    (λ c κs. search needs)
-    (λ c κs. search needs)
-    is-page-requires
-    returns-2)
+    wide-requires
+    (λ c. search needs)
+    narrow-requires
+    (λ c. search needs))

@@ -9,10 +9,10 @@ use lib.Dec.{eqb, leb}
 use lib.ListN.{length}
 use Rattle.model.specs.Bits.{number}
 use Rattle.model.specs.Layouts.{Field, mapping-bodies, kind-of, body-of, length-of}
-use Rattle.model.specs.Mappings.{mapping, Held}
+use Rattle.model.specs.Mappings.{mapping, wide, Held}
 use Rattle.laws.specs.Layouts.{at-rows, of-mapping-kind, has-field, lacks-field, field-has, field-lacks}
 use Rattle.kinds.specs.Places.{place-of}
-use Rattle.mappings.specs.Spans.{SpanAt}
+use Rattle.mappings.specs.Spans.{page-bytes, SpanAt}
 
 -- a field that a test of the kind tells: a number where the test holds, else 0
 pub read-where : {b test : Bool} {f x y : ℕ} → f ≡ cond test y 0 → b ≡ test → b ≡ true → x ≡ y → x ≡ f
@@ -27,14 +27,15 @@ module _ (r : List ℕ) (held : Held r) where
   of-kind test all = of-mapping-kind test all (kind-of r) (held .known)
 
   pub span-at-held : SpanAt r (place-of Field.span (kind-of r))
-  unfolding mapping body-of length-of place-of
+  unfolding mapping body-of length-of place-of wide
   span-at-held =
       record {
         span = sym (field-has Field.span 1 _ r (of-kind (λ k. has-field Field.span 1 (place-of Field.span k) k) refl));
-        page = sym (field-has Field.page 5 _ r (of-kind (λ k. has-field Field.page 5 (place-of Field.span k + 1) k) refl));
-        frame = sym (field-has Field.frame 5 _ r (of-kind (λ k. has-field Field.frame 5 (place-of Field.span k + 6) k) refl));
+        page = sym (field-has Field.page _ _ r (of-kind (λ k. has-field Field.page (page-bytes k) (place-of Field.span k + 1) k) refl));
+        frame =
+            sym (field-has Field.frame 5 _ r (of-kind (λ k. has-field Field.frame 5 (cond (wide k) (place-of Field.span k + 6 + 1) (place-of Field.span k + 6)) k) refl));
         fits =
-            le-trans (leb-true _ _ (of-kind (λ k. leb (place-of Field.span k + 11) (length-of k)) refl)) (held .fits);
+            le-trans (leb-true _ _ (of-kind (λ k. leb (place-of Field.span k + 6 + page-bytes k) (length-of k)) refl)) (held .fits);
       }
 
   -- the EP4TA stands at its place, which is 0 where the record has none

@@ -22,14 +22,14 @@ use Rattle.runs.specs.Laws.Steps.{by-answer, run-after-accepted, run-aft
 
 module _ (test : List ℕ → Bool) where
   -- what an event leaves of them: those out of its scope, and a creation
-  only-new-table : (c : Context) (t e : List ℕ) → valid-event e ≡ true
+  only-new-table : (w : ℕ) (c : Context) (t e : List ℕ) → valid-event w e ≡ true
       → only test (records (new-table c t e)) ≡ only (λ r. not (in-scope c e r)) (only test (records t)) ++ only test (creation e)
   unfolding new-records
-  only-new-table c t e v = rw (records-new-table c t e v, only-append, only-swap test)
+  only-new-table w c t e v = rw (records-new-table w c t e v, only-append, only-swap test)
 
-  alike-new-table : (c : Context) (t t′ e : List ℕ) → valid-event e ≡ true → Alike test t t′ → Alike test (new-table c t e) (new-table c t′ e)
+  alike-new-table : (w : ℕ) (c : Context) (t t′ e : List ℕ) → valid-event w e ≡ true → Alike test t t′ → Alike test (new-table c t e) (new-table c t′ e)
   unfolding Alike
-  alike-new-table c t t′ e v same = only-new-table c t e v ∙ rw same (sym (only-new-table c t′ e v))
+  alike-new-table w c t t′ e v same = only-new-table w c t e v ∙ rw same (sym (only-new-table w c t′ e v))
 
   -- the new table of an accepted step
   table-after-accepted : (c : Context) (t e buffer : List ℕ) → answer c t e (length buffer) ≡ 0 → table-after c t e buffer ≡ new-table c t e
@@ -45,7 +45,7 @@ module _ (test : List ℕ → Bool) where
       let none = sym (stepped-answer c t e (length buffer)) ∙ told in
       let none′ = sym (stepped-answer c t′ e (length buffer′)) ∙ told′ in
       rw (table-after-accepted c t e buffer none, table-after-accepted c t′ e buffer′ none′)
-      (alike-new-table c t t′ e (accepted-parts c t e (length buffer) none .valid) same)
+      (alike-new-table _ c t t′ e (accepted-parts c t e (length buffer) none .valid) same)
 
   -- one event of two runs: both take it, or both are left as they were
   module _ (s s′ : Run) (e : List ℕ) (context : s .context ≡ s′ .context) (same : Alike test (s .table) (s′ .table)) (both : eqb (run-answer s e) 0 ≡ eqb (run-answer s′ e) 0) where
@@ -57,7 +57,7 @@ module _ (test : List ℕ → Bool) where
     accepted none =
         let none′ : run-answer s′ e ≡ 0 = eqb-true (run-answer s′ e) 0 (sym both ∙ eq-eqb (run-answer s e) 0 none) in
         rw (run-after-accepted s e none, run-after-accepted s′ e none′, ← context)
-        (refl, alike-new-table (s .context) (s .table) (s′ .table) e (run-accepted-valid s e none) same)
+        (refl, alike-new-table _ (s .context) (s .table) (s′ .table) e (run-accepted-valid s e none) same)
 
     refused : (run-answer s e ≡ 0 → ⊥) → After
     unfolding After

@@ -12,7 +12,7 @@ use Rattle.runs.specs.Runs.{Run, started, run-answer, run-after, run-rep
 use Rattle.laws.specs.Tables.{records-nil, whole-joined}
 use Rattle.laws.specs.Steps.{new-records, records-new-table}
 use Rattle.runs.specs.Laws.Book.{standing-append, book-after-accepted, book-after-refused, book-report-accepted, book-report-refused}
-use Rattle.runs.specs.Laws.Steps.{by-answer, run-after-accepted, run-after-refused, run-report-accepted, run-report-refused, Sound, sound-started, sound-answer, run-accepted-valid, sound-after}
+use Rattle.runs.specs.Laws.Steps.{by-answer, run-after-accepted, run-after-refused, run-report-accepted, run-report-refused, tabled-whole, Sound, sound-started, sound-answer, run-accepted-valid, sound-after}
 
 -- a run is as the book says: the same context, and the standing records as its table
 pub record Follows (s : Run) (b : Book) : Type 0 where
@@ -27,7 +27,7 @@ follows-started c a b h k = record { sound = sound-started c a b h k; context = 
 -- so its table, its answers and its reports are the book's, and each event keeps this
 pub follows-table : (s : Run) (b : Book) → Follows s b → s .table ≡ book-table b
 unfolding book-table
-follows-table s b k = sym (whole-joined (s .table) (k .sound .tabled .whole)) ∙ ap joined (k .records)
+follows-table s b k = sym (whole-joined (s .table) (tabled-whole s (k .sound .tabled))) ∙ ap joined (k .records)
 
 pub follows-answer : (s : Run) (b : Book) (e : List ℕ) → Follows s b → run-answer s e ≡ book-answer b e
 unfolding book-answer
@@ -61,7 +61,7 @@ follows-after s b e k = by-answer (run-answer s e) accepted refused
           sound = sound-after s e (k .sound);
           context = rw (run-after-accepted s e h, told, k .context);
           records =
-              rw (run-after-accepted s e h, told, noted, records-new-table (s .context) (s .table) e (run-accepted-valid s e h), k .records, k .context);
+              rw (run-after-accepted s e h, told, noted, records-new-table _ (s .context) (s .table) e (run-accepted-valid s e h), k .records, k .context);
         }
 
     refused : (run-answer s e ≡ 0 → ⊥) → Follows (run-after s e) (book-after b e)

@@ -19,10 +19,10 @@ use Rattle.model.specs.Lookups.{usable, usable-records}
 use Rattle.runs.specs.Runs.{Run, started, run-answer, run-after, run-report, run-reports, run-states, without, run-without, InOrderPart, second-gaps, second-reports, refused-for-room, UsableWithin, Compared, none, more, verdict, SecondRun}
 use Rattle.laws.specs.Buffers.{length-put-least}
 use Rattle.laws.specs.Tables.{records-valid, records-joined, joined-whole, whole-joined, length-joined-records}
-use Rattle.laws.specs.Answers.{answer-shorter}
+use Rattle.laws.specs.Answers.{valid-table-parts, valid-table-made, answer-shorter}
 use Rattle.runs.specs.Laws.Parts.{every-without, length-joined-without, part-refl, part-trans, part-only, part-append}
 use Rattle.laws.specs.Steps.{creation, new-records, records-new-table}
-use Rattle.runs.specs.Laws.Steps.{by-answer, run-after-accepted, run-after-refused, run-report-accepted, run-report-refused, Sound, sound-started, sound-answer, run-accepted-valid, sound-after, room-refuses-creations}
+use Rattle.runs.specs.Laws.Steps.{by-answer, run-after-accepted, run-after-refused, run-report-accepted, run-report-refused, tabled-whole, Sound, sound-started, sound-answer, run-accepted-valid, sound-after, room-refuses-creations}
 
 -- a run beside the full one: the same context, and a part of its records
 pub record Within (s full : Run) : Type 0 where
@@ -48,7 +48,9 @@ sound-without gone s k =
     record {
       tabled =
           record {
-            whole = joined-whole (every-without gone (records-valid (s .table)));
+            valid =
+                valid-table-made _ _ (joined-whole (every-without gone (records-valid (s .table))))
+                (rw (records-run-without gone s) (every-without gone (valid-table-parts _ _ (k .tabled .valid) .1)));
             short =
                 omega (arith, length-joined-without gone (records (s .table)), length-joined-records (s .table), k .tabled .short);
           };
@@ -78,7 +80,7 @@ within-usable s full k a =
 pub within-shorter : (s full : Run) → Within s full → length (s .table) ≤ length (full .table)
 unfolding InOrderPart
 within-shorter s full k =
-    let same = ap length (whole-joined (s .table) (k .sound .tabled .whole)) in
+    let same = ap length (whole-joined (s .table) (tabled-whole s (k .sound .tabled))) in
     let fewer : length (joined (records (s .table))) ≤ length (joined (records (full .table))) =
     rw (k .part .1) (length-joined-without (k .part .0) (records (full .table))) in
     omega (arith, length-joined-records (full .table))
@@ -87,7 +89,7 @@ pub within-answer : (s full : Run) (e : List ℕ) → Within s full → (run-ans
 within-answer s full e k h =
     sound-answer s e (k .sound)
     ∙ ap (λ c. answer c (s .table) e limit) (k .context)
-    ∙ answer-shorter (full .context) (full .table) (s .table) e limit (k .full-sound .tabled .whole) (k .sound .tabled .whole) (k .full-sound .tabled .short)
+    ∙ answer-shorter (full .context) (full .table) (s .table) e limit (k .full-sound .tabled .valid) (rw (k .context) at (k .sound .tabled .valid)) (k .full-sound .tabled .short)
     (within-shorter s full k) (λ z. h (sound-answer full e (k .full-sound) ∙ z))
     ∙ sym (sound-answer full e (k .full-sound))
 
@@ -123,7 +125,7 @@ within-after s full e k room = by-answer (run-answer full e) accepted refused
           full-sound = sound-after full e (k .full-sound);
           context = rw (run-after-accepted s e (same ∙ h), run-after-accepted full e h, k .context);
           part =
-              rw (run-after-accepted s e (same ∙ h), run-after-accepted full e h, records-new-table (s .context) (s .table) e valid, records-new-table (full .context) (full .table) e valid, k .context)
+              rw (run-after-accepted s e (same ∙ h), run-after-accepted full e h, records-new-table _ (s .context) (s .table) e valid, records-new-table _ (full .context) (full .table) e valid, k .context)
               (part-append (only outside (records (s .table))) (only outside (records (full .table))) (creation e)
               (part-only outside (records (s .table)) (records (full .table)) (k .part)));
         }

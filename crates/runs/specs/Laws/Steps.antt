@@ -2,7 +2,7 @@
 use Prim.Native.Nat.{ℕ, zero, suc, min, _+_, _≤_}
 use mathlib.Core.Path.{_≡_, refl, sym, ap, _∙_}
 use mathlib.Core.Bool.{Bool, true, false}
-use mathlib.Core.List.{List}
+use mathlib.Core.List.{List, [], _∷_}
 use native.Mathlib.Omega.{arith}
 use lib.ListN.{length}
 use borrow.Author.Tests.{ltb-true, ne-eqb}
@@ -13,14 +13,15 @@ use Rattle.model.specs.Events.{event, valid-event}
 use Rattle.model.specs.Scopes.{next-context}
 use Rattle.model.specs.Layouts.{kind-of, mapping-kind}
 use Rattle.model.specs.declared.Step.{Step}
-use Rattle.model.specs.Answers.{answer, rule-with, created, no-room}
+use Rattle.model.specs.Answers.{valid-table, answer, rule-with, created, no-room}
 use Rattle.model.specs.Steps.{new-table, dropped-count, accepted-step, refused-step, written}
-use Rattle.runs.specs.Runs.{Run, started, run-answer, run-written, run-after, run-report}
-use Rattle.laws.specs.Tables.{joined-whole}
-use Rattle.laws.specs.Answers.{accepted-parts, answer-room, answer-no-room}
+use Rattle.runs.specs.Runs.{Run, started, run-answer, run-written, run-after, run-report, run-of}
+use Rattle.laws.specs.Context.{linear-width-next}
+use Rattle.laws.specs.Tables.{records-nil, joined-whole}
+use Rattle.laws.specs.Answers.{valid-table-parts, valid-table-made, accepted-parts, answer-room, answer-no-room}
 use Rattle.laws.specs.Buffers.{take-put-front, length-put-least}
 use Rattle.laws.specs.Lists.{none}
-use Rattle.laws.specs.Steps.{new-table-whole, length-new-table, stepped-answer, stepped-accepted, stepped-refused}
+use Rattle.laws.specs.Steps.{new-table-valid, length-new-table, stepped-answer, stepped-accepted, stepped-refused}
 
 -- an answer accepts, as 0, or refuses
 pub by-answer : {P : Type 0} (n : ℕ) → (n ≡ 0 → P) → ((n ≡ 0 → ⊥) → P) → P
@@ -53,6 +54,16 @@ run-after-refused s e h =
     let refused : answer (s .context) (s .table) e (length (s .back)) ≡ 0 → ⊥ = λ z. h (run-answer-is s e ∙ z) in
     rw (ne-eqb (run-answer s e) 0 h, stepped-refused (s .context) (s .table) e (length (s .back)) refused, ne-eqb (answer (s .context) (s .table) e (length (s .back))) 0 refused)
 
+-- no event changes the linear width
+pub linear-width-after : (s : Run) (e : List ℕ) → run-after s e .context .«linear_width» ≡ s .context .«linear_width»
+linear-width-after s e =
+    by-answer (run-answer s e) (λ h. rw (run-after-accepted s e h) (linear-width-next (s .context) (event e))) (λ h. rw (run-after-refused s e h))
+
+pub linear-width-of : (s : Run) (es : List (List ℕ)) → run-of s es .context .«linear_width» ≡ s .context .«linear_width»
+unfolding run-of
+linear-width-of s [] = refl
+linear-width-of s (e ∷ es) = linear-width-of (run-after s e) es ∙ linear-width-after s e
+
 -- what is reported of an event, by its answer
 pub run-report-accepted : (s : Run) (e : List ℕ) → run-answer s e ≡ 0
     → run-report s e
@@ -79,14 +90,18 @@ run-report-refused s e h =
       context = ap (λ (x : Step). x .context) refused i;
     }
 
--- what holds of a run at every time: its table is whole and within the limit
+-- what holds of a run at every time: its table is valid and within the limit
 pub record Tabled (s : Run) : Type 0 where
-  pub whole : whole (s .table) ≡ true
+  pub valid : valid-table (s .context .«linear_width») (s .table) ≡ true
   pub short : length (s .table) ≤ limit
+
+pub tabled-whole : (s : Run) → Tabled s → whole (s .table) ≡ true
+tabled-whole s k = valid-table-parts (s .context .«linear_width») (s .table) (k .valid) .0
 
 pub tabled-started : (c : Context) (a b : List ℕ) → Tabled (started c a b)
 unfolding started joined
-tabled-started c a b = record { whole = joined-whole none; short = omega arith }
+tabled-started c a b =
+    record { valid = valid-table-made _ [] (joined-whole none) (rw records-nil none); short = omega arith }
 
 -- and of a run with long buffers, that they are not shorter than the limit
 pub record Sound (s : Run) : Type 0 where
@@ -103,7 +118,7 @@ pub sound-answer : (s : Run) (e : List ℕ) → Sound s → run-answer s e ≡ a
 sound-answer s e k = run-answer-is s e ∙ answer-room (s .context) (s .table) e (length (s .back)) (k .back)
 
 -- an accepted event is valid
-pub run-accepted-valid : (s : Run) (e : List ℕ) → run-answer s e ≡ 0 → valid-event e ≡ true
+pub run-accepted-valid : (s : Run) (e : List ℕ) → run-answer s e ≡ 0 → valid-event (s .context .«linear_width») e ≡ true
 run-accepted-valid s e h = accepted-parts (s .context) (s .table) e (length (s .back)) (sym (run-answer-is s e) ∙ h) .valid
 
 -- every step keeps this
@@ -115,7 +130,7 @@ tabled-after s e k = by-answer (run-answer s e) accepted (λ h. rw (run-after-re
         let parts = accepted-parts (s .context) (s .table) e (length (s .back)) (sym (run-answer-is s e) ∙ h) in
         rw (run-after-accepted s e h)
         (record {
-          whole = new-table-whole (s .context) (s .table) e (parts .valid);
+          valid = new-table-valid (s .context) (s .table) e (length (s .back)) parts;
           short = omega (arith, parts .short, length-new-table (s .context) (s .table) e);
         })
 

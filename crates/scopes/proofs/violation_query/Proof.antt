@@ -14,8 +14,8 @@ returns c =
       pcid .only2 .ensures,
       ep4ta .current-ep4tas .ensures,
       ep4ta .before .ept .ensures,
-      c .before .page .ensures,
-      c .page2 .ensures,
+      c .before .guest-physical-page .ensures,
+      c .page .ensures,
     )
     (meets-violation _ _)
 

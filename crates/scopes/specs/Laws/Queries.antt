@@ -13,7 +13,7 @@ use Rattle.model.specs.Bits.{bit}
 use Rattle.model.specs.Context.{current-vpid, current-ept}
 use Rattle.model.specs.Layouts.{mapping-bodies, mapping-kind}
 use Rattle.model.specs.Mappings.{linear, guest-physical, combined, global-translation}
-use Rattle.model.specs.Events.{page-of}
+use Rattle.model.specs.Events.{page-of, guest-physical-page-of}
 use Rattle.model.specs.Scopes.{Tests, vpid-tagged, vpid-named, ep4ta-of, is-current-ep4ta, no-tests, invvpid-tests, invept-tests, invlpg-tests, guest-physical-violation-tests, combined-violation-tests, violation-tests, transition-tests, pcid-named, invpcid-tests, mov-to-cr3-tests}
 use Rattle.model.specs.Reasons.{first-failed}
 use Rattle.laws.specs.Layouts.{at-rows, of-mapping-kind, agrees, agrees-true}
@@ -30,16 +30,16 @@ in-set set test all k known =
     agrees-true (bit k set) (test k) (of-mapping-kind (λ k. agrees (bit k set) (test k)) all k known)
 
 module _ (k : ℕ) (known : mapping-kind k ≡ true) where
-  all-kinds : bit k 0x7E ≡ true
-  all-kinds = in-set 0x7E (λ k. true) refl k known
+  all-kinds : bit k 0x7FE ≡ true
+  all-kinds = in-set 0x7FE (λ k. true) refl k known
 
-  kinds-with-vpid : bit k 0x5A ≡ (linear k || combined k)
+  kinds-with-vpid : bit k 0x7DA ≡ (linear k || combined k)
   unfolding linear combined
-  kinds-with-vpid = in-set 0x5A (λ k. linear k || combined k) refl k known
+  kinds-with-vpid = in-set 0x7DA (λ k. linear k || combined k) refl k known
 
-  kinds-with-ep4ta : bit k 0x6C ≡ (guest-physical k || combined k)
+  kinds-with-ep4ta : bit k 0x56C ≡ (guest-physical k || combined k)
   unfolding guest-physical combined
-  kinds-with-ep4ta = in-set 0x6C (λ k. guest-physical k || combined k) refl k known
+  kinds-with-ep4ta = in-set 0x56C (λ k. guest-physical k || combined k) refl k known
 
   kinds-guest-physical : bit k 0x24 ≡ guest-physical k
   unfolding guest-physical
@@ -146,7 +146,7 @@ query kinds vpid further pcid global ep4ta covering structures physical linear s
       sparing = sparing;
     }
 
-pub meets-nothing : Meets (λ m. no-tests) (query 0x7E any false any false any false false 0 0 false)
+pub meets-nothing : Meets (λ m. no-tests) (query 0x7FE any false any false any false false 0 0 false)
 unfolding first-failed query-tests
 meets-nothing =
     record {
@@ -158,7 +158,7 @@ meets-nothing =
 
 -- the events that touch mappings with a VPID; what is left is asked of these alone
 meets-with-vpid : (tests : Mapping → Tests) (q : Query)
-    → q .kinds ≡ 0x5A
+    → q .kinds ≡ 0x7DA
     → ((m : Mapping) → tests m .kind ≡ vpid-tagged m)
     → ((m : Mapping) → query-tests q m .kind ≡ tests m .kind → guest-physical (m .kind) ≡ false → first-failed (query-tests q m) ≡ first-failed (tests m))
     → Meets tests q
@@ -183,11 +183,11 @@ further-global true false global = refl
 further-global false true global = refl
 further-global false false global = refl
 
-pub meets-invvpid : (o : Operands)
-    → Meets (invvpid-tests o)
-    (query 0x5A (cond (eqb (o .«type_number») 2) (all-but 0) (only (vpid-named o))) (eqb (o .«type_number») 0 || not (leb (o .«type_number») 2)) any false any (eqb (o .«type_number») 0) true 0 (page-of (o .high)) (not (leb (o .«type_number») 2)))
+pub meets-invvpid : (c : Context) (o : Operands)
+    → Meets (invvpid-tests c o)
+    (query 0x7DA (cond (eqb (o .«type_number») 2) (all-but 0) (only (vpid-named o))) (eqb (o .«type_number») 0 || not (leb (o .«type_number») 2)) any false any (eqb (o .«type_number») 0) true 0 (page-of (c .«linear_width») (o .high)) (not (leb (o .«type_number») 2)))
 unfolding query-tests of-pcid of-ep4ta covers-asked at-page not-spared invvpid-tests
-meets-invvpid o =
+meets-invvpid c o =
     meets-with-vpid _ _ refl (λ m. refl)
     (λ m kind tagged.
     let zero = eqb (o .«type_number») 0 in
@@ -203,7 +203,7 @@ meets-invvpid o =
     }))
 
 pub meets-invept : (o : Operands)
-    → Meets (invept-tests o) (query 0x6C any (eqb (o .«type_number») 1) any false (only (ep4ta-of (o .low))) false false 0 0 false)
+    → Meets (invept-tests o) (query 0x56C any (eqb (o .«type_number») 1) any false (only (ep4ta-of (o .low))) false false 0 0 false)
 unfolding query-tests of-pcid of-ep4ta at-page not-spared invept-tests
 meets-invept o =
     record {
@@ -220,17 +220,17 @@ meets-invept o =
     }
 
 pub meets-invlpg : (c : Context) (address : ℕ)
-    → Meets (invlpg-tests c address) (query 0x5A (only (current-vpid (c .place))) true (only (c .pcid)) true any true false 0 (page-of address) false)
+    → Meets (invlpg-tests c address) (query 0x7DA (only (current-vpid (c .place))) true (only (c .pcid)) true any true false 0 (page-of (c .«linear_width») address) false)
 unfolding first-failed query-tests of-pcid of-ep4ta covers-asked at-page not-spared invlpg-tests
 meets-invlpg c address = meets-with-vpid _ _ refl (λ m. refl) (λ m kind tagged. rw (kind, tagged, touched-only, touched-only, touched-any))
 
-kinds-of-violation : (k : ℕ) → mapping-kind k ≡ true → (b : Bool) → bit k (cond b 0x6C 0x24) ≡ (guest-physical k || (b && combined k))
+kinds-of-violation : (k : ℕ) → mapping-kind k ≡ true → (b : Bool) → bit k (cond b 0x56C 0x24) ≡ (guest-physical k || (b && combined k))
 kinds-of-violation k known true = kinds-with-ep4ta k known
 kinds-of-violation k known false = kinds-guest-physical k known ∙ sym (or-false (guest-physical k))
 
 pub meets-violation : (c : Context) (v : Violation)
     → Meets (violation-tests c v)
-    (query (cond (eqb (v .flag) 1) 0x6C 0x24) (only (current-vpid (c .place))) true (only (c .pcid)) false (tags-of-ept (current-ept (c .place))) true true (page-of (v .physical)) (page-of (v .linear)) false)
+    (query (cond (eqb (v .flag) 1) 0x56C 0x24) (only (current-vpid (c .place))) true (only (c .pcid)) false (tags-of-ept (current-ept (c .place))) true true (guest-physical-page-of (v .physical)) (page-of (c .«linear_width») (v .linear)) false)
 unfolding first-failed query-tests of-pcid of-ep4ta covers-asked at-page not-spared violation-tests guest-physical-violation-tests combined-violation-tests
 meets-violation c v =
     record {
@@ -240,7 +240,7 @@ meets-violation c v =
           (λ is. rw (kinds-of-violation (m .kind) known (eqb (v .flag) 1), is, touched-only, touched-only, or-false, touched-ept));
     }
 
-pub meets-transition : Meets transition-tests (query 0x5A (only 0) false any false any false false 0 0 false)
+pub meets-transition : Meets transition-tests (query 0x7DA (only 0) false any false any false false 0 0 false)
 unfolding first-failed query-tests transition-tests
 meets-transition = meets-with-vpid _ _ refl (λ m. refl) (λ m kind tagged. rw (kind, tagged, touched-only))
 
@@ -254,7 +254,7 @@ not-sparing false global = refl
 
 pub meets-invpcid : (c : Context) (o : Operands)
     → Meets (invpcid-tests c o)
-    (query 0x5A (only (current-vpid (c .place))) true (cond (leb (o .«type_number») 1) (only (pcid-named o)) any) false any (eqb (o .«type_number») 0) true 0 (page-of (o .high)) (not (eqb (o .«type_number») 2)))
+    (query 0x7DA (only (current-vpid (c .place))) true (cond (leb (o .«type_number») 1) (only (pcid-named o)) any) false any (eqb (o .«type_number») 0) true 0 (page-of (c .«linear_width») (o .high)) (not (eqb (o .«type_number») 2)))
 unfolding query-tests of-pcid of-ep4ta covers-asked at-page not-spared invpcid-tests
 meets-invpcid c o =
     meets-with-vpid _ _ refl (λ m. refl)
@@ -270,7 +270,7 @@ meets-invpcid c o =
     }))
 
 pub meets-mov-to-cr3 : (c : Context) (pcid : ℕ)
-    → Meets (mov-to-cr3-tests c pcid) (query 0x5A (only (current-vpid (c .place))) true (only pcid) false any false false 0 0 true)
+    → Meets (mov-to-cr3-tests c pcid) (query 0x7DA (only (current-vpid (c .place))) true (only pcid) false any false false 0 0 true)
 unfolding query-tests of-pcid of-ep4ta at-page not-spared mov-to-cr3-tests
 meets-mov-to-cr3 c pcid =
     meets-with-vpid _ _ refl (λ m. refl)

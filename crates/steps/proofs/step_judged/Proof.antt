@@ -16,13 +16,13 @@ use Rattle.steps.proofs.step_judged.Tie as tie
 returns : tie.Need-returns
 unfolding Rattle.model.specs.Answers.rule-with
 returns c =
-    let invalid = valid-event-invalid _ (sym (c .before .before .before .read-event .ensures) ∙ c .before .enum-told .given .1) in
+    let invalid = valid-event-invalid _ _ (sym (c .before .before .before .read-event .ensures) ∙ c .before .enum-told .given .1) in
     step-refused _ _ _ _ (answer-of-invalid _ _ _ _ (c .before .before .before .before .before .before .before .pre .0) invalid) (λ z. omega arith) refl (c .refused .ensures)
 
 -- the event is valid, and read
 read : (c : tie.After-known-told)
-    → (valid-event (now (c .before .before .before .before .before .before .before .args .event)) ≡ true) × (c .before .e .given .0 .0 ≡ event (now (c .before .before .before .before .before .before .before .args .event)))
-read c = valid-event-read _ _ (sym (c .before .before .before .read-event .ensures) ∙ c .before .e .given .1)
+    → (valid-event (c .before .before .before .before .before .before .before .args .c .«linear_width») (now (c .before .before .before .before .before .before .before .args .event)) ≡ true) × (c .before .e .given .0 .0 ≡ event (now (c .before .before .before .before .before .before .before .args .event)))
+read c = valid-event-read _ _ _ (sym (c .before .before .before .read-event .ensures) ∙ c .before .e .given .1)
 
 -- the answer that it gives alone
 told : (c : tie.After-answer-to-event)

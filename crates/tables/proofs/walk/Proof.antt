@@ -1,5 +1,5 @@
--- The walk stands behind whole, valid records and has counted them. The measure is what is left of the
--- length.
+-- The walk stands behind whole, valid records of the linear width and has counted them. The measure is what is left of
+-- the length.
 use Prim.Native.Nat.{_-_}
 use native.Mathlib.Omega.{arith}
 use borrow.Author.Needs.{needs}
@@ -9,19 +9,19 @@ use Rattle.tables.proofs.walk.Statement.{statement}
 use Rattle.tables.proofs.walk.Tie as tie
 
 abbrev Inv-loop : tie.InvT-loop
-Inv-loop table at₀ records₀ at records = Walked table at records
+Inv-loop width table at₀ records₀ at records = Walked width table at records
 
 abbrev μ-loop : tie.MeasureT-loop
-μ-loop table at₀ records₀ at records = length table - at
+μ-loop width table at₀ records₀ at records = length table - at
 
 loop-holds : tie.Need-loop-holds Inv-loop μ-loop
-loop-holds c = walk-start _
+loop-holds c = walk-start _ _
 
 returns : tie.Need-returns Inv-loop μ-loop
-returns c = walk-stop (c .before .before .before .before .loop .inv) (c .before .length-of-record .ensures) (c .if1 .taken)
+returns c = walk-stop (c .before .before .before .before .loop .inv) (c .before .length-at .ensures) (c .if1 .taken)
 
 loop-again : tie.Need-loop-again Inv-loop μ-loop
-loop-again c = walk-on (c .before .before .before .before .loop .inv) (c .before .length-of-record .ensures) (c .if1 .left)
+loop-again c = walk-on (c .before .before .before .before .loop .inv) (c .before .length-at .ensures) (c .if1 .left)
 
 add-at : tie.Need-add-at Inv-loop μ-loop
 add-at c = omega (arith, loop-again c)

@@ -48,7 +48,7 @@ loop-again : tie.Need-loop-again Inv-loop μ-loop
 loop-again c =
     let d = c .before .before .before .before .before .before .before .before .before in
     let t = d .before .before .before in
-    telling-turn (t .before .before .loop .inv) (omega arith) (goes t) (d .advance .ensures) (d .advance .kept .1 .1 .0) (d .advance .kept .1 .1 .1 .0) (c .before .before .put-line .ensures)
+    telling-turn (t .before .before .loop .inv) (omega arith) (goes t) (d .advance .ensures) (d .advance .kept .1 .1 .1 .0) (d .advance .kept .1 .1 .1 .1 .0) (c .before .before .put-line .ensures)
 
 same-length : tie.Need-same-length Inv-loop μ-loop
 same-length c = c .before .before .loop .inv .taking .first
@@ -63,7 +63,7 @@ returns : tie.Need-returns Inv-loop μ-loop
 returns c =
     let l = c .before .before .loop in
     let a = c .before .before .before .before .before .before .before .args in
-    telling-end (l .inv) (none-from (now (a .log)) (l .q .at) (l .lines) (length (now (a .out)) / 84) (c .if1 .left))
+    telling-end (l .inv) (none-from _ (now (a .log)) (l .q .at) (l .lines) (length (now (a .out)) / 84) (c .if1 .left))
 
 pub write-lines-spec : {M : Type 1} → statement M
 write-lines-spec =

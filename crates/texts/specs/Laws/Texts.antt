@@ -17,7 +17,7 @@ use Rattle.runs.specs.Runs.{started}
 use Rattle.runs.specs.Laws.First.{follows-started}
 use Rattle.logs.specs.declared.Progress.{Progress}
 use Rattle.logs.specs.declared.Advanced.{Advanced}
-use Rattle.logs.specs.Logs.{log-limit, program, events-of, events-from}
+use Rattle.logs.specs.Logs.{log-limit, program, program-width, events-of, events-from}
 use Rattle.logs.specs.Replays.{Line, run-lines}
 use Rattle.logs.specs.State.{run-at, begun, Ready, Advances, Progresses}
 use Rattle.logs.specs.Laws.Logs.{events-of-end, events-of-split, events-from-cons, events-from-end, event-size-within, length-event-at}
@@ -46,7 +46,7 @@ unfolding text-left program-text begun
 text-left-begun log a b h k = go (leb (length log) log-limit) refl
   where
     go : (short : Bool) → leb (length log) log-limit ≡ short → text-left (begun program) log a b ≡ program-text log
-    go true s = rw (s, run-at-begun program a b) (ap (λ (ls : List Line). numbered-from 1 ls) (follows-lines (started program a b) (opened program) (events-of log) (follows-started program a b h k)))
+    go true s = rw (s, run-at-begun program a b) (ap (λ (ls : List Line). numbered-from 1 ls) (follows-lines (started program a b) (opened program) (events-of program-width log) (follows-started program a b h k)))
     go false s = rw (s, lt-ltb 0 (length log) (omega (arith, leb-false (length log) log-limit s)))
 
 pub starts : {r : Progress} → r ≡ begun program → Starts r
@@ -60,7 +60,7 @@ starts is =
 -- ---- the lines of the next events
 
 -- one line more
-pub next-lines-cons : {p : Progress} {log a b : List ℕ} (n : ℕ) → p .at < length log → {r : Advanced} {a′ b′ : List ℕ} → Advances p log a b r a′ b′
+pub next-lines-cons : {p : Progress} {log a b : List ℕ} (n : ℕ) → p .at < length log → {r : Advanced} {a′ b′ : List ℕ} → Advances program-width p log a b r a′ b′
     → next-lines p log a b (suc n)
     ≡ line-text (r .progress .count) (r .answer) (r .dropped) (r .progress .state .length) ++ next-lines (r .progress) log a′ b′ n
 unfolding next-lines numbered-from
@@ -68,7 +68,7 @@ next-lines-cons n more done = rw (lines-next n more done, done .count)
 
 -- what holds before each event: the lines written so far, with those that are left, are the lines of all
 pub record Telling (from : Progress) (log a b out : List ℕ) (most : ℕ) (p : Progress) (count used : ℕ) (a′ b′ out′ : List ℕ) : Type 0 where
-  pub taking : Taking from log a b most p (most - count) a′ b′
+  pub taking : Taking program-width from log a b most p (most - count) a′ b′
   pub written : List ℕ
   pub whole : next-lines from log a b most ≡ written ++ next-lines p log a′ b′ (most - count)
   pub size : used ≡ length written
@@ -95,7 +95,7 @@ pub telling-turn : {from : Progress} {log a b out : List ℕ} {most : ℕ} {p : 
     → Telling from log a b out most p count used a′ b′ out′
     → line-limit * most ≤ length out
     → Going log (p .at) count most
-    → {r : Advanced} {a″ b″ : List ℕ} → Advances p log a′ b′ r a″ b″
+    → {r : Advanced} {a″ b″ : List ℕ} → Advances program-width p log a′ b′ r a″ b″
     → length a″ ≡ length a′
     → length b″ ≡ length b′
     → {end : ℕ} {out″ : List ℕ}
@@ -122,7 +122,7 @@ telling-turn {out = out} {most} {p} {count} t room g {r} done keeps-a keeps-b {o
 
 pub telling-end : {from : Progress} {log a b out : List ℕ} {p : Progress} {count used : ℕ} {a′ b′ out′ : List ℕ}
     → Telling from log a b out (length out / line-limit) p count used a′ b′ out′
-    → events-from log (p .at) (length out / line-limit - count) ≡ []
+    → events-from program-width log (p .at) (length out / line-limit - count) ≡ []
     → TellsLines from log a b out (record { progress = p; length = used }) a′ b′ out′
 unfolding next-lines run-lines numbered-from
 telling-end {out = out} {used = used} {out′ = out′} t none =
@@ -138,22 +138,22 @@ telling-end {out = out} {used = used} {out′ = out′} t none =
 -- ---- a piece
 
 -- what is left is the lines of the next events, and then what is left after them
-text-left-split : {p q : Progress} {log a b a′ b′ : List ℕ} {n : ℕ} → length log ≤ log-limit → Progresses p log a b n q a′ b′
+text-left-split : {p q : Progress} {log a b a′ b′ : List ℕ} {n : ℕ} → length log ≤ log-limit → Progresses program-width p log a b n q a′ b′
     → text-left p log a b ≡ next-lines p log a b n ++ text-left q log a′ b′
 unfolding text-left next-lines
 text-left-split {p} {q} {log} {a} {b} {n = n} short done =
-    let es = events-from log (p .at) n in
+    let es = events-from program-width log (p .at) n in
     let count : p .count + 1 + length es ≡ q .count + 1 = omega (arith, done .count) in
-    rw (le-leb (length log) log-limit short, events-of-split log n (p .at), ← (done .at), run-lines-append (run-at (p .state) a b) es, ← (done .run), numbered-from-append, length-run-lines (run-at (p .state) a b) es, count)
+    rw (le-leb (length log) log-limit short, events-of-split program-width log n (p .at), ← (done .at), run-lines-append (run-at (p .state) a b) es, ← (done .run), numbered-from-append, length-run-lines (run-at (p .state) a b) es, count)
 
 -- lines are some bytes where there is an event, and none where there is none
 next-lines-none : (p : Progress) (log a b : List ℕ) (n : ℕ) → length log ≤ p .at → next-lines p log a b n ≡ []
 unfolding next-lines run-lines numbered-from
-next-lines-none p log a b n h = rw (events-from-end log (p .at) n h)
+next-lines-none p log a b n h = rw (events-from-end program-width log (p .at) n h)
 
 next-lines-some : (p : Progress) (log a b : List ℕ) (n : ℕ) → p .at < length log → 0 < length (next-lines p log a b (suc n))
 unfolding next-lines run-lines
-next-lines-some p log a b n more = rw (events-from-cons log (p .at) n more) (numbered-some (p .count + 1) _ _)
+next-lines-some p log a b n more = rw (events-from-cons program-width log (p .at) n more) (numbered-some (p .count + 1) _ _)
 
 -- so nothing is left where the piece is empty, and else some of the log was taken
 nothing-left : (p : Progress) (log a b : List ℕ) (n : ℕ) → 0 < n → length log ≤ log-limit → length (next-lines p log a b n) ≡ 0 → text-left p log a b ≡ []
@@ -163,9 +163,9 @@ nothing-left p log a b (suc n) some short none = go (ltb (p .at) (length log)) r
   where
     go : (more : Bool) → ltb (p .at) (length log) ≡ more → text-left p log a b ≡ []
     go true m = absurd (omega (arith, next-lines-some p log a b n (ltb-true (p .at) (length log) m)))
-    go false m = rw (le-leb (length log) log-limit short, events-of-end log (p .at) (ltb-false (p .at) (length log) m))
+    go false m = rw (le-leb (length log) log-limit short, events-of-end program-width log (p .at) (ltb-false (p .at) (length log) m))
 
-some-taken : {p q : Progress} {log a b a′ b′ : List ℕ} (n : ℕ) → 0 < n → Progresses p log a b n q a′ b′ → 0 < length (next-lines p log a b n) → p .at < q .at
+some-taken : {p q : Progress} {log a b a′ b′ : List ℕ} (n : ℕ) → 0 < n → Progresses program-width p log a b n q a′ b′ → 0 < length (next-lines p log a b n) → p .at < q .at
 unfolding joined
 some-taken zero some done more = absurd (omega arith)
 some-taken {p} {q} {log} {a} {b} (suc n) some done more = go (ltb (p .at) (length log)) refl
@@ -173,8 +173,8 @@ some-taken {p} {q} {log} {a} {b} (suc n) some done more = go (ltb (p .at) (lengt
     go : (m : Bool) → ltb (p .at) (length log) ≡ m → p .at < q .at
     go true m =
         let here = ltb-true (p .at) (length log) m in
-        let at = rw (events-from-cons log (p .at) n here, length-append) at (done .at) in
-        omega (arith, at, length-event-at log (p .at), event-size-within log (p .at) here)
+        let at = rw (events-from-cons program-width log (p .at) n here, length-append) at (done .at) in
+        omega (arith, at, length-event-at program-width log (p .at), event-size-within program-width log (p .at) here)
     go false m = absurd (omega (arith, ap length (next-lines-none p log a b (suc n) (ltb-false (p .at) (length log) m))))
 
 -- a piece of lines

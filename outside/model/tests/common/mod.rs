@@ -53,7 +53,10 @@ pub fn m(kind: u64) -> M {
         vpid: 5,
         pcid: 1,
         global: 0,
-        span: if kind <= 3 { 0 } else { 1 },
+        span: match kind {
+            1..=3 | 7 | 8 => 0,
+            _ => 1,
+        },
         page: 0,
         ep4ta: EP4TA,
     }
@@ -66,14 +69,14 @@ impl M {
         let pcid = (self.pcid, 2);
         let global = (self.global, 1);
         let span = (self.span, 1);
-        let page = (self.page, 5);
+        let page = (self.page, if self.kind >= 7 { 6 } else { 5 });
         let frame = (0x77, 5);
         let ep4ta = (self.ep4ta, 5);
         match self.kind {
-            1 => bytes(&[kind, vpid, pcid, global, span, page, frame]),
-            3 => bytes(&[kind, vpid, pcid, global, span, page, frame, ep4ta]),
-            4 => bytes(&[kind, vpid, pcid, span, page, frame]),
-            6 => bytes(&[kind, vpid, pcid, span, page, frame, ep4ta]),
+            1 | 7 => bytes(&[kind, vpid, pcid, global, span, page, frame]),
+            3 | 8 => bytes(&[kind, vpid, pcid, global, span, page, frame, ep4ta]),
+            4 | 9 => bytes(&[kind, vpid, pcid, span, page, frame]),
+            6 | 10 => bytes(&[kind, vpid, pcid, span, page, frame, ep4ta]),
             _ => bytes(&[kind, ep4ta, span, page, frame]),
         }
     }
@@ -172,6 +175,24 @@ pub fn with_width(context: Context, width: u64) -> Context {
     Context { width, ..context }
 }
 
+/// The same at another linear width.
+pub fn at_width(context: Context, linear_width: u64) -> Context {
+    Context {
+        linear_width,
+        ..context
+    }
+}
+
+/// The six kinds of a table at the context's linear width, by their siblings 1
+/// to 6.
+pub fn kinds_of(context: &Context) -> [u64; 6] {
+    if context.linear_width == 57 {
+        [7, 2, 8, 9, 5, 10]
+    } else {
+        [1, 2, 3, 4, 5, 6]
+    }
+}
+
 /// The program's capability without one bit.
 pub fn without(context: Context, bit: u32) -> Context {
     Context {
@@ -223,9 +244,10 @@ pub fn drops(context: &Context, record: &[u8], event: &[u8]) -> bool {
     false
 }
 
-/// Which of the kinds 1 to 6 go, with `m`'s fields changed by `f`.
+/// Which of the six kinds go, with `m`'s fields changed by `f`.
 pub fn kinds_dropped(context: &Context, event: &[u8], f: impl Fn(&mut M)) -> Vec<u64> {
-    (1..=6)
+    kinds_of(context)
+        .into_iter()
         .filter(|kind| {
             let mut mapping = m(*kind);
             f(&mut mapping);

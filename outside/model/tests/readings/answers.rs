@@ -228,12 +228,12 @@ fn r5_12_a_creation_needs_its_record_too() {
 #[test]
 fn r5_13_the_limit_binds_creations() {
     let context = guest(5, None);
-    let full = m(4).bytes().repeat(2_816);
+    let full = m(4).bytes().repeat(2_944);
     let less = &full[16..];
     for room in [TABLE_LIMIT, TABLE_LIMIT + 1, 100_000] {
         let (step, _) = run_into(&context, less, &m(4).bytes(), room);
         assert_eq!((step.answer, step.length), (0, TABLE_LIMIT));
-        // 45,057 bytes.
+        // 47,105 bytes.
         assert_eq!(run_into(&context, less, &A, room).0.answer, 12);
         let (step, _) = run_into(&context, &full, &m(4).bytes(), room);
         assert_eq!(step.answer, 12);
@@ -250,7 +250,7 @@ fn r5_13_the_limit_binds_creations() {
 
 #[test]
 fn r5_14_11_goes_before_12() {
-    let full = m(4).bytes().repeat(2_816);
+    let full = m(4).bytes().repeat(2_944);
     assert_eq!(answer(&root(), &full, &A), 11);
     assert_eq!(run_into(&root(), &[], &A, 0).0.answer, 11);
     assert_eq!(
@@ -276,7 +276,7 @@ fn r5_15_replay_prints_the_length_in_force() {
 #[test]
 fn r5_16_the_tail_stays() {
     // run() compares the tail of every buffer; here with a full one.
-    let full = m(4).bytes().repeat(2_816);
+    let full = m(4).bytes().repeat(2_944);
     let (step, _) = run(&root(), &full, &invvpid(1, 5, 0));
-    assert_eq!((step.dropped, step.length), (2_816, 0));
+    assert_eq!((step.dropped, step.length), (2_944, 0));
 }

@@ -2,7 +2,6 @@
 
 use crate::common::*;
 use model::book::Book;
-use model::{PROGRAM_CAPABILITY, PROGRAM_WIDTH};
 
 #[test]
 fn r10_1_invlpg_takes_structure_caches_of_any_page() {
@@ -46,7 +45,7 @@ fn r10_1_a_canonical_address_is_still_needed() {
 
 #[test]
 fn r10_1_the_book_reads_the_new_scope() {
-    let mut book = Book::new(PROGRAM_CAPABILITY, PROGRAM_WIDTH);
+    let mut book = Book::new(&outside());
     book.feed(&m_outside(1));
     book.feed(&m_outside(4));
     let verdict = book.feed(&invlpg(1 << 30));

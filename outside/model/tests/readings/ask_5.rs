@@ -5,7 +5,7 @@ use crate::common::*;
 use generate::{hex, Rng};
 use model::book::Book;
 use model::{print, replay, step, tuned, Context};
-use model::{PROGRAM_CAPABILITY, PROGRAM_WIDTH, TABLE_LIMIT};
+use model::{PROGRAM_CAPABILITY, TABLE_LIMIT};
 
 const SEED: u64 = 20_260_101;
 
@@ -345,7 +345,7 @@ fn r12_3_its_twin_drops_nothing() {
 
 #[test]
 fn the_book_knows_both_kinds() {
-    let mut book = Book::new(PROGRAM_CAPABILITY, PROGRAM_WIDTH);
+    let mut book = Book::new(&outside());
     let global = M {
         vpid: 0,
         pcid: 3,
@@ -438,10 +438,11 @@ fn runs_with_both_kinds_against_the_book() {
     let mut rng = Rng::new(SEED);
     let mut dropped = 0;
     for number in 0..40 {
-        let mut book = Book::new(PROGRAM_CAPABILITY, PROGRAM_WIDTH);
+        let start = at_width(outside(), rng.pick(&[48, 57]));
+        let mut book = Book::new(&start);
         let mut context = *book.context();
         let mut table = Vec::new();
-        for other in generate::events(&mut rng, 200) {
+        for other in generate::events(&mut rng, context.linear_width, 200) {
             let own = event(&mut rng, &context);
             for event in [own, other] {
                 let mut new = vec![0; TABLE_LIMIT];

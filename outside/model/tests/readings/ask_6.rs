@@ -4,7 +4,6 @@ use crate::common::*;
 use model::book::Book;
 use model::judge::failed_rule;
 use model::{explain, print, replay, Context, Reason};
-use model::{PROGRAM_CAPABILITY, PROGRAM_WIDTH};
 
 /// Answer and rule of a step on an empty table.
 fn ask(context: &Context, event: &[u8]) -> (u64, u64) {
@@ -236,7 +235,7 @@ fn the_explainer_adds_the_number() {
 
 #[test]
 fn the_books_verdict_carries_it() {
-    let mut book = Book::new(PROGRAM_CAPABILITY, PROGRAM_WIDTH);
+    let mut book = Book::new(&outside());
     for (event, due) in [
         (enter(EPTP ^ 1), (5, 0)),
         (VMXON.to_vec(), (0, 0)),

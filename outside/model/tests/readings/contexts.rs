@@ -58,6 +58,7 @@ fn r1_5_reset_keeps_capability_and_width() {
     let context = Context {
         capability: 77,
         width: 40,
+        linear_width: 48,
         pcid: 9,
         cpl: 3,
         place: Place::Guest {
@@ -66,7 +67,7 @@ fn r1_5_reset_keeps_capability_and_width() {
         },
     };
     let (step, _) = run(&context, &A, &RESET);
-    assert_eq!(step.context, Context::after_reset(77, 40));
+    assert_eq!(step.context, Context::after_reset(77, 40, 48));
     assert_eq!((step.dropped, step.length), (1, 0));
 }
 

@@ -1,7 +1,7 @@
 //! Events.
 
 use crate::common::*;
-use model::event::{canonical, page};
+use model::LinearWidth::Bits48;
 
 /// One valid event of each kind.
 fn one_of_each() -> Vec<Vec<u8>> {
@@ -45,7 +45,10 @@ fn r3_1_lengths() {
     );
     for kind in 0..=255 {
         let known = lengths.iter().find(|(own, _)| *own == kind);
-        assert_eq!(model::event::length(kind), known.map(|(_, length)| *length));
+        assert_eq!(
+            model::event::length(Bits48, kind),
+            known.map(|(_, length)| *length)
+        );
     }
 }
 
@@ -113,7 +116,7 @@ fn r3_5_canonical() {
         (0xFFFF_8000_0000_0000, true),
         (u64::MAX, true),
     ] {
-        assert_eq!(canonical(address), expected);
+        assert_eq!(Bits48.canonical(address), expected);
     }
 }
 
@@ -148,8 +151,8 @@ fn r3_7_descriptors() {
 
 #[test]
 fn r3_8_pages_are_not_sign_extended() {
-    assert_eq!(page(0xFFFF_FFFF_FFFF_F000), 0xF_FFFF_FFFF);
-    assert_eq!(page(0xFFFF_8000_0000_0FFF), 0x8_0000_0000);
+    assert_eq!(Bits48.page(0xFFFF_FFFF_FFFF_F000), 0xF_FFFF_FFFF);
+    assert_eq!(Bits48.page(0xFFFF_8000_0000_0FFF), 0x8_0000_0000);
     let record = M {
         page: 0xF_FFFF_FFFF,
         ..m(1)

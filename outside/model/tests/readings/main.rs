@@ -5,6 +5,7 @@
 mod common;
 
 mod answers;
+mod ask_12;
 mod ask_2;
 mod ask_5;
 mod ask_6;
@@ -15,3 +16,4 @@ mod records;
 mod replays;
 mod runs;
 mod scopes;
+mod widen;

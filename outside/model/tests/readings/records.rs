@@ -1,6 +1,7 @@
 //! Records and tables.
 
 use crate::common::*;
+use model::LinearWidth::Bits48;
 use model::{lookup, Address, TABLE_LIMIT};
 
 #[test]
@@ -56,7 +57,7 @@ fn r2_3_lengths_and_offsets() {
     let lengths: Vec<usize> = (1..=6).map(|kind| m(kind).bytes().len()).collect();
     assert_eq!(lengths, [17, 17, 22, 16, 17, 21]);
     for kind in 0..=255u8 {
-        let length = model::mapping::length(kind);
+        let length = model::mapping::length(Bits48, kind);
         let expected = lengths.get(usize::from(kind).wrapping_sub(1)).copied();
         assert_eq!(length, expected);
     }
@@ -104,7 +105,7 @@ fn r2_6_length_goes_before_validity() {
     let full = m(4).bytes().repeat(TABLE_LIMIT / 16);
     assert_eq!(full.len(), TABLE_LIMIT);
     let (step, _) = run(&root(), &full, &RESET);
-    assert_eq!((step.answer, step.dropped), (0, 2_816));
+    assert_eq!((step.answer, step.dropped), (0, 2_944));
     let rubbish = vec![0; TABLE_LIMIT + 1];
     assert_eq!(answer(&root(), &rubbish, &RESET), 2);
     assert_eq!(lookup(&root(), &rubbish, Address::Linear(0), 0), (2, None));

@@ -7,7 +7,7 @@ fn printed(log: &[u8]) -> String {
     let plain = replay(log);
     let (mut old, mut new) = (vec![0; TABLE_LIMIT], vec![0; TABLE_LIMIT]);
     let mut lines = Vec::new();
-    let whole = tuned::replay(log, &mut old, &mut new, |line| lines.push(line));
+    let whole = tuned::replay(&outside(), log, &mut old, &mut new, |line| lines.push(line));
     assert_eq!(plain, whole.then_some(lines));
     print(plain.as_deref())
 }
@@ -47,21 +47,21 @@ fn r8_3_the_log_limit() {
 #[test]
 fn r8_6_a_full_table_in_mid_log() {
     let record = m_outside(4);
-    let mut log = record.repeat(2_816);
+    let mut log = record.repeat(2_944);
     log.extend(&record); // 12
     log.extend(invlpg(ODD)); // has nothing in scope
     log.extend(invlpg(1 << 30)); // drops all, though none covers it
     log.extend(&record);
     let lines = printed(&log);
-    let last: Vec<&str> = lines.lines().skip(2_815).collect();
+    let last: Vec<&str> = lines.lines().skip(2_943).collect();
     assert_eq!(
         last,
         [
-            "2816 0 0 45056",
-            "2817 12 0 45056",
-            "2818 0 0 45056",
-            "2819 0 2816 0",
-            "2820 0 0 16"
+            "2944 0 0 47104",
+            "2945 12 0 47104",
+            "2946 0 0 47104",
+            "2947 0 2944 0",
+            "2948 0 0 16"
         ]
     );
 }

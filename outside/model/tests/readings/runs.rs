@@ -2,11 +2,10 @@
 
 use crate::common::*;
 use model::book::Book;
-use model::{Context, PROGRAM_CAPABILITY, PROGRAM_WIDTH};
 
 #[test]
 fn r7_1_the_book_counts_by_note() {
-    let mut book = Book::new(PROGRAM_CAPABILITY, PROGRAM_WIDTH);
+    let mut book = Book::new(&outside());
     book.feed(&m_outside(1));
     book.feed(&m_outside(1));
     let verdict = book.feed(&invlpg(0));
@@ -16,7 +15,7 @@ fn r7_1_the_book_counts_by_note() {
 
 #[test]
 fn r7_2_the_book_judges_in_the_noted_context() {
-    let mut book = Book::new(PROGRAM_CAPABILITY, PROGRAM_WIDTH);
+    let mut book = Book::new(&outside());
     for event in [
         VMXON.to_vec(),
         m_outside(1),
@@ -34,8 +33,8 @@ fn r7_2_the_book_judges_in_the_noted_context() {
 #[test]
 fn r7_6_a_run_at_a_bad_width() {
     for width in [0, 35, 53, u64::MAX] {
-        let mut book = Book::new(PROGRAM_CAPABILITY, width);
-        let context = Context::after_reset(PROGRAM_CAPABILITY, width);
+        let context = with_width(outside(), width);
+        let mut book = Book::new(&context);
         for event in [&VMXON[..], &RESET, &[], &A] {
             assert_eq!(book.feed(event).answer, 1);
             assert_eq!(answer(&context, &[], event), 1);

@@ -1,0 +1,4 @@
+pub mod Widening
+pub mod Theorem
+pub mod Laws
+pub mod Cards
