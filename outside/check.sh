@@ -7,7 +7,7 @@
 # passed: 'outside: N checks passed'.
 set -u
 
-ROUNDS=200
+ROUNDS=160
 SEED=1
 
 stop() {

@@ -1,6 +1,7 @@
 /*
  * Document 01's five events as a log, which is cut into its events, one step
- * each; a lookup, a conversion and a reason between them.
+ * each, with a tally; a lookup, a fresh count, a conversion and a reason between
+ * them.
  *
  *     cc -I outside/c outside/c/example.c target/staticlib/libskuldrefn.a
  */
@@ -28,6 +29,10 @@ static const uint64_t expected[][3] = {{0, 0, 0}, {0, 0, 0}, {0, 0, 17}, {0, 0, 
 
 /* Two buffers hold the table in force in turn. */
 static uint8_t buffers[2][SKULDREFN_TABLE_LIMIT];
+
+/* The tally of the table in force, at first that of an empty one; and a fresh count. */
+static skuldrefn_tally tally = {0};
+static skuldrefn_tally fresh = {0};
 
 /* A table for 57-bit linear addresses. */
 static uint8_t wide[SKULDREFN_TABLE_LIMIT];
@@ -62,8 +67,8 @@ int main(void)
             wrong |= !taken;
         }
 
-        skuldrefn_step_result step = skuldrefn_step(
-            context, buffers[in_force], length,
+        skuldrefn_step_result step = skuldrefn_step_tally(
+            context, &tally, buffers[in_force], length,
             event, event_length,
             buffers[1 - in_force], sizeof buffers[0]);
         if (step.answer == SKULDREFN_ACCEPTED) {
@@ -88,6 +93,13 @@ int main(void)
             printf("12345678h: %s\n", found ? "the record just created" : "nothing");
             wrong |= !found;
 
+            /* The step has counted it, as a fresh count does. */
+            uint64_t counted = skuldrefn_count_tally(
+                context.linear_width, buffers[in_force], length, &fresh);
+            printf("records of PCID 1: %u\n", (unsigned)tally.pcids[1]);
+            wrong |= counted != SKULDREFN_ACCEPTED || memcmp(&tally, &fresh, sizeof tally) != 0
+                || tally.pcids[1] != 1;
+
             /* The same table for a guest with 57-bit linear addresses. */
             skuldrefn_widened widened = skuldrefn_widen(
                 buffers[in_force], length, wide, sizeof wide);
@@ -96,5 +108,8 @@ int main(void)
         }
         event += event_length;
     }
+
+    /* INVVPID took the record, and the step took it off. */
+    wrong |= tally.pcids[1] != 0 || tally.kinds.rows[SKULDREFN_KIND_LINEAR - 1].spans[0] != 0;
     return wrong;
 }

@@ -10,12 +10,13 @@
  * nothing: no pointer, no copy, no state. Nothing is allocated. So calls from
  * several threads do not disturb each other if their buffers do not.
  *
- * Buffers that are written (new_table, first, second, rows) may overlap no
- * other buffer of the same call. A pointer may be null if its length is 0.
- * Any other pointer must be good for its length. Bytes need no alignment.
+ * Buffers that are written (new_table, pcids, first, second, rows) may overlap
+ * no other buffer of the same call. A pointer may be null if its length is 0.
+ * Any other pointer must be good for its length. Bytes need no alignment;
+ * pcids is aligned as uint16_t is, and its length is the number of counts.
  *
- * Every other input is answered: any number in any field, any bytes in a
- * table, a record, an event or a log, and any length of a buffer.
+ * Every other input is answered: any number in any field or count, any bytes in
+ * a table, a record, an event or a log, and any length of a buffer.
  *
  * What the model does, rule by rule, is in docs/MODEL.md. A record or an event
  * is one byte of kind, then a body whose fields and length the kind fixes;
@@ -38,6 +39,9 @@ extern "C" {
 
 /* The longest event, in bytes. */
 #define SKULDREFN_EVENT_LIMIT 25
+
+/* How many PCIDs there are, and so how many counts a tally has for them. */
+#define SKULDREFN_PCIDS 4096
 
 /* The bytes of one row that skuldrefn_replay writes. */
 #define SKULDREFN_ROW 24
@@ -109,9 +113,10 @@ enum {
 };
 
 /*
- * The answers. The lowest number that applies is given, and only then.
- * skuldrefn_step gives 0 to 12, a lookup 0 to 3, skuldrefn_widen 0, 2, 3 or 12.
- * A refusal that skuldrefn_explain names is 1 or 3 to 11.
+ * The answers. The lowest number that applies is given, and only then; but 13 goes
+ * after 4 and before 5. skuldrefn_step gives 0 to 13, skuldrefn_plain_step 0 to 12,
+ * skuldrefn_count 0, 2, 3 or 13, a lookup 0 to 3, skuldrefn_widen 0, 2, 3 or 12. A
+ * refusal that skuldrefn_explain names is 1 or 3 to 11.
  */
 enum {
     SKULDREFN_ACCEPTED = 0,      /* none of the others applies */
@@ -134,10 +139,12 @@ enum {
     SKULDREFN_BAD_ENTRY = 10,    /* VM entry: VPIDs enabled with VPID 0, or EPT
                                     enabled with a bad EPTP */
     SKULDREFN_NOT_CREATABLE = 11, /* a mapping that cannot be created here */
-    SKULDREFN_NO_ROOM = 12       /* the new buffer, or 47,104, is less than the
+    SKULDREFN_NO_ROOM = 12,      /* the new buffer, or 47,104, is less than the
                                     old table's length, plus the record's for
                                     a creation; or than the new table's, for
                                     skuldrefn_widen */
+    SKULDREFN_BAD_TALLY = 13     /* the tally is not that of the old table, or
+                                    it has not 4,096 counts for PCIDs */
 };
 
 /*
@@ -184,36 +191,156 @@ typedef struct {
     uint64_t ep4ta;        /* below 2^40: bits 51 to 12 of the EPTP */
 } skuldrefn_context;
 
-/* What a step reports. */
+/*
+ * A tally: how many records a table has, by kind and span, and by PCID. A program
+ * that watches totals reads them there, and need not walk the table.
+ *
+ * It is the caller's, one for each table, and skuldrefn_step carries it from the
+ * old table to the new one. It starts as the tally of the table that is there: with
+ * an empty table every count is 0 (skuldrefn_tally tally = {0};), and a stored table
+ * is counted afresh with skuldrefn_count_tally. Whoever changes a table in another
+ * way, as by taking records out, counts afresh too. skuldrefn_widen alone leaves
+ * every count as it is.
+ *
+ * Answer 13 says that the tally is not that of the old table: some count differs,
+ * which may be one that is 0 for every table, as that of kind 1 and span 3. Then
+ * tallies or tables were mixed up. The table itself was found valid: count it afresh,
+ * and step again.
+ */
+
+/* The records of one kind, by span, 0 to 4. */
 typedef struct {
-    uint64_t answer;           /* 0 to 12 */
+    uint16_t spans[5];
+} skuldrefn_row;
+
+/* A row for each of kinds 1 to 6; kinds 7, 8, 9 and 10 are in the rows of 1, 3, 4
+   and 6. */
+typedef struct {
+    skuldrefn_row rows[6];
+} skuldrefn_kinds;
+
+/* The counts of a table, for skuldrefn_step_tally and skuldrefn_count_tally. */
+typedef struct {
+    skuldrefn_kinds kinds;
+    uint16_t pcids[SKULDREFN_PCIDS]; /* by PCID: the records of kinds 1, 3, 4 and 6
+                                        and of 7 to 10, global ones too */
+} skuldrefn_tally;
+
+/* What a step with a tally reports. */
+typedef struct {
+    uint64_t answer;           /* 0 to 13 */
     uint64_t rule;             /* the rule that the EPTP breaks, if that is the
                                   ground of answer 8 or 10, else 0 */
     skuldrefn_context context; /* the context after the event */
     size_t length;             /* the new table's length in bytes */
     size_t dropped;            /* how many records went */
-} skuldrefn_step_result;
+    skuldrefn_kinds kinds;     /* the counts by kind and span after the event */
+} skuldrefn_counted_step;
 
 /*
- * One event on a context and a table.
+ * One event on a context, a table and its tally.
  *
+ * kinds, pcids, pcids_length: the tally of the old table; pcids_length is 4,096.
  * table, table_length: the old table; it is only read.
  * event, event_length: the event; it is only read.
  * new_table, new_length: where the new table is written, from the start.
  * Bytes past its length stay as they were. A buffer of 47,104 bytes is always
  * enough.
  *
- * With answer 0 the new table is in new_table[0 .. length - 1], and the
- * context is the one after the event; fields that its place lacks are 0. With
- * any other answer nothing is written, the context is handed back as it came,
- * length and dropped are 0, and the old table remains in force. rule is 0 but for
- * a bad EPTP.
+ * With answer 0 the new table is in new_table[0 .. length - 1], its tally is in
+ * kinds and pcids, and the context is the one after the event; fields that its place
+ * lacks are 0. With any other answer nothing is written, pcids included, context and
+ * kinds are handed back as they came, length and dropped are 0, and the old table
+ * remains in force with its tally. rule is 0 but for a bad EPTP.
+ *
+ * Programs written before the tally: skuldrefn_step is now skuldrefn_plain_step
+ * (Rust: step and step_flat are plain_step and plain_step_flat). Compile them anew:
+ * an old object file still links, and is wrong.
  */
-skuldrefn_step_result skuldrefn_step(
+skuldrefn_counted_step skuldrefn_step(
+    skuldrefn_context context,
+    skuldrefn_kinds kinds, uint16_t *pcids, size_t pcids_length,
+    const uint8_t *table, size_t table_length,
+    const uint8_t *event, size_t event_length,
+    uint8_t *new_table, size_t new_length);
+
+/* What a fresh count reports. */
+typedef struct {
+    uint64_t answer;       /* 0, 2, 3 or 13 */
+    skuldrefn_kinds kinds; /* the counts by kind and span */
+} skuldrefn_counted;
+
+/*
+ * The tally of a table, counted afresh.
+ *
+ * linear_width: any but 57 is read as 48.
+ * table, table_length: the table; it is only read.
+ * pcids, pcids_length: where the counts by PCID are written; pcids_length is 4,096.
+ *
+ * The answer is 2 if the table is longer than 47,104 bytes; 3 if it is not whole,
+ * valid records of that linear width; 13 if pcids_length is not 4,096; else 0. With
+ * another answer than 0 nothing is written and all of kinds is 0.
+ */
+skuldrefn_counted skuldrefn_count(
+    uint64_t linear_width,
+    const uint8_t *table, size_t table_length,
+    uint16_t *pcids, size_t pcids_length);
+
+/* What a step reports besides the tally. */
+typedef struct {
+    uint64_t answer;           /* 0 to 13 */
+    uint64_t rule;             /* as in skuldrefn_counted_step, and so are the
+                                  others */
+    skuldrefn_context context;
+    size_t length;
+    size_t dropped;
+} skuldrefn_step_result;
+
+/*
+ * The same step without a tally: there is no answer 13, and all else is as with the
+ * tally of the old table.
+ */
+skuldrefn_step_result skuldrefn_plain_step(
     skuldrefn_context context,
     const uint8_t *table, size_t table_length,
     const uint8_t *event, size_t event_length,
     uint8_t *new_table, size_t new_length);
+
+/*
+ * skuldrefn_step on a tally in one struct, which becomes that of the new table; a
+ * refusal leaves it.
+ */
+static inline skuldrefn_step_result skuldrefn_step_tally(
+    skuldrefn_context context, skuldrefn_tally *tally,
+    const uint8_t *table, size_t table_length,
+    const uint8_t *event, size_t event_length,
+    uint8_t *new_table, size_t new_length)
+{
+    skuldrefn_counted_step counted = skuldrefn_step(
+        context, tally->kinds, tally->pcids, SKULDREFN_PCIDS,
+        table, table_length, event, event_length, new_table, new_length);
+    skuldrefn_step_result step = {
+        counted.answer, counted.rule, counted.context, counted.length, counted.dropped};
+    tally->kinds = counted.kinds;
+    return step;
+}
+
+/*
+ * skuldrefn_count into a tally in one struct. The answer is 0, 2 or 3; a refusal
+ * leaves the tally.
+ */
+static inline uint64_t skuldrefn_count_tally(
+    uint64_t linear_width,
+    const uint8_t *table, size_t table_length,
+    skuldrefn_tally *tally)
+{
+    skuldrefn_counted counted = skuldrefn_count(
+        linear_width, table, table_length, tally->pcids, SKULDREFN_PCIDS);
+    if (counted.answer == SKULDREFN_ACCEPTED) {
+        tally->kinds = counted.kinds;
+    }
+    return counted.answer;
+}
 
 /* What a lookup reports: a part of the table. */
 typedef struct {

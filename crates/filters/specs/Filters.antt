@@ -11,9 +11,13 @@ use Rattle.model.specs.Mappings.{mapping}
 use Rattle.model.specs.Tables.{records, joined, only, count}
 use Rattle.filters.specs.declared.Filtered.{Filtered}
 
--- the records of a table of which the test does not hold, end to end
+-- the records of a table of which the test does not hold
+abbrev pub left : (Mapping → Bool) → List ℕ → List (List ℕ)
+left test t = only (λ r. not (test (mapping r))) (records t)
+
+-- the same, end to end
 unfoldable pub filtered : (Mapping → Bool) → List ℕ → List ℕ
-filtered test t = joined (only (λ r. not (test (mapping r))) (records t))
+filtered test t = joined (left test t)
 
 -- how many records of a table it holds of
 unfoldable pub scoped : (Mapping → Bool) → List ℕ → ℕ

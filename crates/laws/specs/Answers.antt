@@ -192,6 +192,12 @@ module _ (c : Context) (t e : List ℕ) (room : ℕ) (w : valid-table (c .«line
   answer-not-1 fits = first-absent (grounds c t e room) 0 (rw (table-grounds-whole c t w short, fits))
 
 -- the answer of grounds end to end: that of the first part, or of the second where it gives none
+-- grounds that give the same number do so behind others
+pub first-append : (gs hs ks : List (ℕ × Bool)) → first hs ≡ first ks → first (gs ++ hs) ≡ first (gs ++ ks)
+unfolding first
+first-append [] hs ks same = same
+first-append (g ∷ gs) hs ks same = rw (first-append gs hs ks same)
+
 pub first-append-some : (gs hs : List (ℕ × Bool)) → (first gs ≡ 0 → ⊥) → first (gs ++ hs) ≡ first gs
 unfolding first
 first-append-some [] hs h = absurd (h refl)

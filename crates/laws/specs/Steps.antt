@@ -1,6 +1,6 @@
 -- Steps: the bytes that an event adds, room for them, the records of the new table, its length, and a
 -- step by its answer.
-use Prim.Native.Nat.{ℕ, min, _+_, _≤_}
+use Prim.Native.Nat.{ℕ, min, _+_, _-_, _≤_}
 use mathlib.Core.Path.{_≡_, refl, sym, _∙_}
 use mathlib.Core.Bool.{Bool, true, false, cond, not, _||_}
 use mathlib.Core.List.{List, [], _∷_, _++_}
@@ -12,14 +12,14 @@ use Rattle.model.specs.declared.Context.{Context}
 use Rattle.model.specs.declared.Step.{Step}
 use Rattle.model.specs.Buffers.{put}
 use Rattle.model.specs.Layouts.{kind-of, mapping-kind}
-use Rattle.model.specs.Tables.{limit, joined, records, whole, only}
+use Rattle.model.specs.Tables.{limit, joined, records, whole, only, count}
 use Rattle.model.specs.Events.{event, valid-event}
 use Rattle.model.specs.Scopes.{next-context}
 use Rattle.model.specs.Answers.{first, created, no-room, valid-table, table-grounds, answer, rule-with}
 use Rattle.model.specs.Steps.{in-scope, new-table, dropped-count, accepted-step, refusal, refused-step, stepped, written}
 use Rattle.laws.specs.Lists.{Every, none, more, every-head, every-tail, every-append}
 use Rattle.laws.specs.Mappings.{Valid}
-use Rattle.laws.specs.Tables.{joined-append, joined-one, every-only, records-valid, records-joined, joined-whole, length-joined-only, length-joined-records}
+use Rattle.laws.specs.Tables.{count-append, count-split, joined-append, joined-one, every-only, records-valid, records-joined, joined-whole, length-joined-only, length-joined-records}
 use Rattle.laws.specs.Events.{creation-valid, creation-fields}
 use Rattle.laws.specs.Context.{linear-width-next}
 use Rattle.laws.specs.Answers.{OfWidth, first-zero, valid-table-parts, valid-table-made, Accepted}
@@ -66,6 +66,11 @@ unfolding table-grounds
 judged-whole c t h =
     valid-table-parts (c .«linear_width») t (not-false (valid-table (c .«linear_width») t) (every-head (every-tail (every-tail (first-zero (table-grounds c t) refl h))))) .0
 
+-- and it is short
+pub judged-short : (c : Context) (t : List ℕ) → first (table-grounds c t) ≡ 0 → length t ≤ limit
+unfolding table-grounds
+judged-short c t h = ltb-false limit (length t) (every-head (every-tail (first-zero (table-grounds c t) refl h)))
+
 -- the record that an event adds to the table, if it is a creation
 unfoldable pub creation : List ℕ → List (List ℕ)
 creation e = cond (mapping-kind (kind-of e)) (e ∷ []) []
@@ -108,6 +113,14 @@ new-records-valid w c t e v = every-append (every-only (λ r. not (in-scope c e 
 
 pub records-new-table : (w : ℕ) (c : Context) (t e : List ℕ) → valid-event w e ≡ true → records (new-table c t e) ≡ new-records c t e
 records-new-table w c t e v = rw new-table-joined (records-joined (new-records-valid w c t e v))
+
+-- any count over the new table: that over the old one, less that over the records in scope, and the creation's
+pub count-new-table : (w : ℕ) (c : Context) (t e : List ℕ) → valid-event w e ≡ true → (p : List ℕ → Bool)
+    → count p (records (new-table c t e)) ≡ (count p (records t) - count p (only (λ r. in-scope c e r) (records t))) + count p (creation e)
+unfolding new-records
+count-new-table w c t e v p =
+    rw (records-new-table w c t e v)
+    (omega (arith, count-append p (only (λ r. not (in-scope c e r)) (records t)) (creation e), count-split p (λ r. in-scope c e r) (records t)))
 
 pub new-table-whole : (w : ℕ) (c : Context) (t e : List ℕ) → valid-event w e ≡ true → whole (new-table c t e) ≡ true
 new-table-whole w c t e v = rw new-table-joined (joined-whole (new-records-valid w c t e v))

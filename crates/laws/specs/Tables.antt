@@ -99,6 +99,37 @@ count-one p r = go (p r)
     go true = refl
     go false = refl
 
+-- counts of records add up
+pub count-nil : (p : List ℕ → Bool) → count p [] ≡ 0
+unfolding count only
+count-nil p = refl
+
+pub count-append : (p : List ℕ → Bool) (rs ss : List (List ℕ)) → count p (rs ++ ss) ≡ count p rs + count p ss
+unfolding count
+count-append p rs ss = rw (only-append p rs ss) (length-append (only p rs) (only p ss))
+
+pub count-cons : (p : List ℕ → Bool) (r : List ℕ) (rs : List (List ℕ)) → count p (r ∷ rs) ≡ cond (p r) 1 0 + count p rs
+unfolding count
+count-cons p r rs = go (p r) refl
+  where
+    go : (b : Bool) → p r ≡ b → length (only p (r ∷ rs)) ≡ cond b 1 0 + length (only p rs)
+    go true e = rw (only-true p r rs e) (omega arith)
+    go false e = rw (only-false p r rs e) (omega arith)
+
+pub count-le : (p : List ℕ → Bool) (rs : List (List ℕ)) → count p rs ≤ length rs
+count-le p rs = omega (arith, count-complement p rs)
+
+-- of the records of which another test holds and of those of which it does not
+pub count-split : (p q : List ℕ → Bool) (rs : List (List ℕ)) → count p rs ≡ count p (only q rs) + count p (only (λ r. not (q r)) rs)
+unfolding only
+count-split p q [] = omega (arith, count-nil p)
+count-split p q (r ∷ rs) = go (q r) (count-split p q rs)
+  where
+    go : (b : Bool) → count p rs ≡ count p (only q rs) + count p (only (λ r. not (q r)) rs)
+        → count p (r ∷ rs) ≡ count p (cond b (r ∷ only q rs) (only q rs)) + count p (cond (not b) (r ∷ only (λ r. not (q r)) rs) (only (λ r. not (q r)) rs))
+    go true h = omega (arith, h, count-cons p r rs, count-cons p r (only q rs))
+    go false h = omega (arith, h, count-cons p r rs, count-cons p r (only (λ r. not (q r)) rs))
+
 pub length-joined-only : (p : List ℕ → Bool) (rs : List (List ℕ)) → length (joined (only p rs)) ≤ length (joined rs)
 unfolding only
 length-joined-only p [] = le-refl _
@@ -193,6 +224,11 @@ pub records-valid : (t : List ℕ) → Every Valid (records t)
 records-valid =
     records-induction (λ t. Every Valid (records t)) (λ t e. rw (records-none t e) none)
     (λ t n e h. rw (records-cons t n e) (more (valid-take t n e) h))
+
+-- valid records are at most as many as their bytes
+pub length-valid : {rs : List (List ℕ)} → Every Valid rs → length rs ≤ length (joined rs)
+length-valid none = omega arith
+length-valid (more {x} {xs} v vs) = omega (arith, length-valid vs, v .filled, length-joined-cons x xs)
 
 -- exactly valid records end to end are read back
 pub records-joined : {rs : List (List ℕ)} → Every Valid rs → records (joined rs) ≡ rs

@@ -36,7 +36,7 @@ fn span_at(part: &[u8]) -> usize
 }
 
 // The span of the record at the front.
-fn span(part: &[u8]) -> u64
+pub fn span(part: &[u8]) -> u64
     requires { ⌜ Held (now part) ⌝ }
     ensures { λ r. ⌜ r ≡ mapping (now (part .entry)) .span ⌝ }
 {

@@ -8,6 +8,7 @@ use lib.Dec.{eqb}
 use lib.ListN.{length, take}
 use Rattle.model.specs.Buffers.{put}
 use Rattle.model.specs.declared.Context.{Context}
+use Rattle.model.specs.declared.Step.{Step}
 use Rattle.model.specs.declared.Address.{Address}
 use Rattle.model.specs.Context.{after-reset}
 use Rattle.model.specs.Layouts.{kind-of, mapping-kind}
@@ -35,30 +36,23 @@ run-answer s e = stepped (s .context) (s .table) e (length (s .back)) .answer
 unfoldable pub run-written : Run → List ℕ → List ℕ
 run-written s e = written (s .context) (s .table) e (s .back)
 
+-- the run after a step, by what the step handed back and the buffer that it wrote into: a new table is in force, and
+-- the buffers change places
+abbrev pub moved : Run → Step → List ℕ → Run
+moved s r b =
+    cond (eqb (r .answer) 0)
+    (record { context = r .context; table = take (r .length) b; front = b; back = s .front })
+    (record { context = r .context; table = s .table; front = s .front; back = b })
+
 unfoldable pub run-after : Run → List ℕ → Run
-run-after s e =
-    cond (eqb (run-answer s e) 0)
-    (record {
-      context = stepped (s .context) (s .table) e (length (s .back)) .context;
-      table = take (stepped (s .context) (s .table) e (length (s .back)) .length) (run-written s e);
-      front = run-written s e;
-      back = s .front;
-    })
-    (record {
-      context = stepped (s .context) (s .table) e (length (s .back)) .context;
-      table = s .table;
-      front = s .front;
-      back = run-written s e;
-    })
+run-after s e = moved s (stepped (s .context) (s .table) e (length (s .back))) (run-written s e)
+
+-- what is told of a step
+abbrev pub report : Step → Report
+report r = record { answer = r .answer; rule = r .rule; dropped = r .dropped; context = r .context }
 
 unfoldable pub run-report : Run → List ℕ → Report
-run-report s e =
-    record {
-      answer = run-answer s e;
-      rule = stepped (s .context) (s .table) e (length (s .back)) .rule;
-      dropped = stepped (s .context) (s .table) e (length (s .back)) .dropped;
-      context = stepped (s .context) (s .table) e (length (s .back)) .context;
-    }
+run-report s e = report (stepped (s .context) (s .table) e (length (s .back)))
 
 unfoldable pub run-reports : Run → List (List ℕ) → List Report
 run-reports s [] = []

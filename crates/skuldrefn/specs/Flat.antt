@@ -12,9 +12,14 @@ use Rattle.model.specs.declared.Address.{Address}
 use Rattle.model.specs.Steps.{stepped, written}
 use Rattle.model.specs.Lookups.{lookup-answer, lookup, lookup-start}
 use Rattle.model.specs.Reasons.{explanation, explanation-number, explanation-answer, explanation-rule}
+use Rattle.tables.specs.Counts.{table-counts}
+use Rattle.counted_steps.specs.Steps.{counted-stepped, counted-pcids, counted-written}
 use Rattle.flat_contexts.specs.declared.FlatContext.{FlatContext}
 use Rattle.flat_contexts.specs.Contexts.{is-known, unflatten, flatten}
 use Rattle.skuldrefn.specs.declared.FlatStep.{FlatStep}
+use Rattle.skuldrefn.specs.declared.FlatKinds.{FlatKinds}
+use Rattle.skuldrefn.specs.declared.FlatCountedStep.{FlatCountedStep}
+use Rattle.skuldrefn.specs.declared.FlatCounts.{FlatCounts}
 use Rattle.skuldrefn.specs.declared.FlatPart.{FlatPart}
 use Rattle.skuldrefn.specs.declared.FlatReason.{FlatReason}
 use Rattle.skuldrefn.specs.declared.FlatReplayed.{FlatReplayed}
@@ -26,19 +31,39 @@ use Rattle.logs.specs.Replays.{Replays, ByTheBook}
 abbrev pub refused : ℕ → ℕ → FlatContext → FlatStep
 refused answer rule c = record { answer = answer; rule = rule; context = c; length = 0; dropped = 0 }
 
--- the step's result: answer 1 where a number stands for nothing
+-- a step's result
 abbrev pub flat-result : FlatContext → Step → FlatStep
 flat-result c s =
     cond (eqb (s .answer) 0)
     (record { answer = 0; rule = 0; context = flatten (s .context); length = s .length; dropped = s .dropped })
     (refused (s .answer) (s .rule) c)
 
+-- a step: answer 1 where a number stands for nothing
 unfoldable pub flat-step : FlatContext → List ℕ → List ℕ → ℕ → FlatStep
 flat-step c t e room = cond (is-known c) (flat-result c (stepped (unflatten c) t e room)) (refused 1 0 c)
 
 -- the new buffer after it
 unfoldable pub flat-written : FlatContext → List ℕ → List ℕ → List ℕ → List ℕ
 flat-written c t e buffer = cond (is-known c) (written (unflatten c) t e buffer) buffer
+
+-- the step beside a tally, whose result is that of a step and the counts by kind and span
+unfoldable pub flat-counted-step : FlatContext → FlatKinds → List ℕ → List ℕ → List ℕ → ℕ → FlatCountedStep
+flat-counted-step c kinds pcids t e room =
+    let counted = counted-stepped (unflatten c) (kinds .rows) pcids t e room in
+    cond (is-known c)
+    (record { step = flat-result c (counted .step); kinds = record { rows = counted .kinds } })
+    (record { step = refused 1 0 c; kinds = kinds })
+
+-- the counts by PCID after it, and the new buffer
+unfoldable pub flat-counted-pcids : FlatContext → FlatKinds → List ℕ → List ℕ → List ℕ → ℕ → List ℕ
+flat-counted-pcids c kinds pcids t e room = cond (is-known c) (counted-pcids (unflatten c) (kinds .rows) pcids t e room) pcids
+
+unfoldable pub flat-counted-written : FlatContext → FlatKinds → List ℕ → List ℕ → List ℕ → List ℕ → List ℕ
+flat-counted-written c kinds pcids t e buffer = cond (is-known c) (counted-written (unflatten c) (kinds .rows) pcids t e buffer) buffer
+
+-- a fresh count
+unfoldable pub flat-counts : ℕ → List ℕ → ℕ → FlatCounts
+flat-counts width t n = record { answer = table-counts width t n .answer; kinds = record { rows = table-counts width t n .kinds } }
 
 -- a lookup: its answer, and where the part stands in the table
 unfoldable pub flat-lookup : FlatContext → Address → List ℕ → ℕ → FlatPart

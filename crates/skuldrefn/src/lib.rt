@@ -4,12 +4,15 @@ use flat_contexts::FlatContext;
 use model::Address;
 use model::Context;
 use model::Place;
+use model::Step;
+use tallies::KindCounts;
 use widening::Widened;
 ghost use mathlib.Core.Path.{_≡_};
 ghost use lib.ListN.{length};
 ghost use Rattle.widening.specs.Widening.{widening, widening-written};
 ghost use Rattle.logs.specs.Logs.{told-length};
-ghost use Rattle.skuldrefn.specs.Flat.{flat-step, flat-written, flat-lookup, flat-explanation, fresh, FlatReplays};
+ghost use Rattle.tables.specs.Counts.{table-pcid-counts};
+ghost use Rattle.skuldrefn.specs.Flat.{refused, flat-result, flat-step, flat-written, flat-counted-step, flat-counted-pcids, flat-counted-written, flat-counts, flat-lookup, flat-explanation, fresh, FlatReplays};
 ghost use mathlib.Core.Bool.{cond};
 
 // What a step reports.
@@ -22,10 +25,93 @@ pub struct FlatStep {
     pub dropped: usize,
 }
 
-// One step: the answer and the rule of the EPTP that goes with it, the context, the length of the new table and the dropped count. A refusal
-// writes nothing and hands back the context as it came.
+// What a refused step reports: the context as it came, 0 and 0.
+fn refused(answer: u64, rule: u64, context: FlatContext) -> FlatStep
+    ensures { λ r. ⌜ r ≡ refused answer rule context ⌝ }
+{
+    FlatStep {
+        answer,
+        rule,
+        context,
+        length: 0,
+        dropped: 0,
+    }
+}
+
+// A step's result, with the context as numbers.
+fn flat_step(context: FlatContext, s: Step) -> FlatStep
+    ensures { λ r. ⌜ r ≡ flat-result context s ⌝ }
+{
+    if s.answer != 0 {
+        return refused(s.answer, s.rule, context);
+    }
+    let after = s.context;
+    let flat = flat_contexts::flat_context(after);
+    FlatStep {
+        answer: 0,
+        rule: 0,
+        context: flat,
+        length: s.length,
+        dropped: s.dropped,
+    }
+}
+
+// The counts of a tally by kind and span: a row for each of kinds 1 to 6; kinds 7, 8, 9 and 10 are counted in the rows
+// of 1, 3, 4 and 6.
+#[repr(C)]
+pub struct FlatKinds {
+    pub rows: [KindCounts; 6],
+}
+
+// What a step beside a tally reports.
+#[repr(C)]
+pub struct FlatCountedStep {
+    pub step: FlatStep,
+    pub kinds: FlatKinds,
+}
+
+// One step beside a tally: the answer and the rule of the EPTP that goes with it, the context, the length of the new
+// table, the dropped count, and the counts of the new table; those by PCID are changed in place. A tally that does not
+// match the old table, or has not 4,096 counts by PCID, is refused with 13. A refusal writes nothing and hands back the
+// context and the counts as they came.
 #[no_mangle]
 pub extern "C" fn skuldrefn_step(
+    context: FlatContext,
+    kinds: FlatKinds,
+    pcids: &mut [u16],
+    table: &[u8],
+    event: &[u8],
+    new: &mut [u8],
+) -> FlatCountedStep
+    ensures { λ r. ⌜ r ≡ flat-counted-step context kinds (now (pcids .entry)) (now (table .entry)) (now (event .entry)) (length (now (new .entry))) ⌝ }
+    ensures { λ _. ⌜ now (pcids .exit) ≡ flat-counted-pcids context kinds (now (pcids .entry)) (now (table .entry)) (now (event .entry)) (length (now (new .entry))) ⌝ }
+    ensures { λ _. ⌜ now (new .exit) ≡ flat-counted-written context kinds (now (pcids .entry)) (now (table .entry)) (now (event .entry)) (now (new .entry)) ⌝ }
+{
+    if !flat_contexts::is_known(context) {
+        return FlatCountedStep {
+            step: refused(1, 0, context),
+            kinds,
+        };
+    }
+    let rows = kinds.rows;
+    let counted = counted_steps::counted_step(
+        flat_contexts::context_of(context),
+        rows,
+        pcids,
+        table,
+        event,
+        new,
+    );
+    let after = counted.kinds;
+    FlatCountedStep {
+        step: flat_step(context, counted.step),
+        kinds: FlatKinds { rows: after },
+    }
+}
+
+// One step without a tally. A refusal writes nothing and hands back the context as it came.
+#[no_mangle]
+pub extern "C" fn skuldrefn_plain_step(
     context: FlatContext,
     table: &[u8],
     event: &[u8],
@@ -35,32 +121,34 @@ pub extern "C" fn skuldrefn_step(
     ensures { λ _. ⌜ now (new .exit) ≡ flat-written context (now (table .entry)) (now (event .entry)) (now (new .entry)) ⌝ }
 {
     if !flat_contexts::is_known(context) {
-        return FlatStep {
-            answer: 1,
-            rule: 0,
-            context,
-            length: 0,
-            dropped: 0,
-        };
+        return refused(1, 0, context);
     }
-    let s = steps::step(flat_contexts::context_of(context), table, event, new);
-    if s.answer == 0 {
-        let after = s.context;
-        let flat = flat_contexts::flat_context(after);
-        return FlatStep {
-            answer: 0,
-            rule: 0,
-            context: flat,
-            length: s.length,
-            dropped: s.dropped,
-        };
-    }
-    FlatStep {
-        answer: s.answer,
-        rule: s.rule,
+    flat_step(
         context,
-        length: 0,
-        dropped: 0,
+        steps::step(flat_contexts::context_of(context), table, event, new),
+    )
+}
+
+// A fresh count of a table: the answer, and the counts by kind and span.
+#[repr(C)]
+pub struct FlatCounts {
+    pub answer: u64,
+    pub kinds: FlatKinds,
+}
+
+// Counts the records of a table at a linear width; any width but 57 is read as 48. The answer is 2 or 3, of the table,
+// or 13, where there are not 4,096 counts for the PCIDs, else 0. A refusal leaves these as they are, and the counts by
+// kind and span are 0.
+#[no_mangle]
+pub extern "C" fn skuldrefn_count(linear_width: u64, table: &[u8], pcids: &mut [u16]) -> FlatCounts
+    ensures { λ r. ⌜ r ≡ flat-counts «linear_width» (now (table .entry)) (length (now (pcids .entry))) ⌝ }
+    ensures { λ _. ⌜ now (pcids .exit) ≡ table-pcid-counts «linear_width» (now (table .entry)) (now (pcids .entry)) ⌝ }
+{
+    let counted = tables::count(linear_width, table, pcids);
+    let rows = counted.kinds;
+    FlatCounts {
+        answer: counted.answer,
+        kinds: FlatKinds { rows },
     }
 }
 

@@ -4,15 +4,17 @@ use model::Event;
 use model::EventReading;
 use model::Step;
 ghost use mathlib.Core.Path.{_≡_};
-ghost use mathlib.Core.Bool.{true};
+ghost use mathlib.Core.Bool.{true, cond};
 ghost use Prim.Native.Nat.{_+_, _≤_};
 ghost use lib.ListN.{length};
 ghost use Rattle.model.specs.Buffers.{put};
 ghost use Rattle.model.specs.Layouts.{kind-of, mapping-kind};
-ghost use Rattle.model.specs.Tables.{whole, records};
+ghost use Rattle.model.specs.Tables.{records};
 ghost use Rattle.model.specs.Events.{event};
-ghost use Rattle.model.specs.Answers.{first, table-grounds, created, no-room};
+ghost use Rattle.model.specs.Answers.{first, valid-here, table-grounds, created, no-room};
 ghost use Rattle.model.specs.Steps.{new-table, accepted-step, refusal, stepped, written};
+ghost use Rattle.tallies.specs.Tallies.{Tallied, Carries, Countable};
+ghost use Rattle.steps.specs.Counts.{cells-with-creation, pcids-with-creation, records-after};
 
 // The bytes are a creation's: their kind is a mapping's.
 fn is_creation(e: &[u8]) -> bool
@@ -65,17 +67,46 @@ fn add_creation(raw: &[u8], new: &mut [u8], at: usize) -> usize
     buffers::put(raw, new, at)
 }
 
-// Writes the new table of an accepted event: the records out of scope, and a creation at the end. The
-// table's records are counted.
-fn perform(c: Context, e: Event, table: &[u8], count: usize, raw: &[u8], new: &mut [u8]) -> Step
+// Counts a creation, where the records are counted; another event adds nothing.
+fn count_creation(raw: &[u8], counting: bool, cells: &mut [u16], pcids: &mut [u16])
+    requires { ⌜ (counting ≡ true → mapping-kind (kind-of (now raw)) ≡ true → Countable (now raw) (now cells) (now pcids)) ⌝ }
+    ensures { λ _. ⌜ now (cells .exit) ≡ cond counting (cells-with-creation (now (raw .entry)) (now (cells .entry))) (now (cells .entry)) ⌝ }
+    ensures { λ _. ⌜ now (pcids .exit) ≡ cond counting (pcids-with-creation (now (raw .entry)) (now (pcids .entry))) (now (pcids .entry)) ⌝ }
+{
+    if !counting {
+        return;
+    }
+    if !is_creation(raw) {
+        return;
+    }
+    tallies::add(raw, cells, pcids);
+}
+
+// Writes the new table of an accepted event: the records out of scope, and a creation at the end. How many records the
+// table has is known; where they are counted, those of the new table are after it.
+fn perform(
+    c: Context,
+    e: Event,
+    table: &[u8],
+    count: usize,
+    raw: &[u8],
+    counting: bool,
+    cells: &mut [u16],
+    pcids: &mut [u16],
+    new: &mut [u8],
+) -> Step
+    requires { ⌜ first (table-grounds c (now table)) ≡ 0 ⌝ }
+    requires { ⌜ valid-here c (now raw) ≡ true ⌝ }
     requires { ⌜ e ≡ event (now raw) ⌝ }
-    requires { ⌜ whole (now table) ≡ true ⌝ }
     requires { ⌜ count ≡ length (records (now table)) ⌝ }
     requires { ⌜ length (now table) + length (created (now raw)) ≤ length (now new) ⌝ }
+    requires { ⌜ (counting ≡ true → Tallied (records (now table)) (now cells) (now pcids)) ⌝ }
     ensures { λ r. ⌜ r ≡ accepted-step c (now (table .entry)) (now (raw .entry)) ⌝ }
     ensures { λ _. ⌜ now (new .exit) ≡ put 0 (new-table c (now (table .entry)) (now (raw .entry))) (now (new .entry)) ⌝ }
+    ensures { λ _. ⌜ Carries counting (records (new-table c (now (table .entry)) (now (raw .entry)))) (now (cells .entry)) (now (pcids .entry)) (now (cells .exit)) (now (pcids .exit)) ⌝ }
 {
-    let filtered = filters::filter_counted(c, e, table, count, new);
+    let filtered = filters::filter_event(c, e, table, count, counting, cells, pcids, new);
+    count_creation(raw, counting, cells, pcids);
     let length = add_creation(raw, new, filtered.length);
     Step {
         answer: 0,
@@ -86,8 +117,41 @@ fn perform(c: Context, e: Event, table: &[u8], count: usize, raw: &[u8], new: &m
     }
 }
 
-// One event on a context and a table to which answers 1 to 3 do not apply, and whose records are
-// counted: answers 4 to 12, and what `step` writes.
+// One valid event on a context and a table to which answers 1 to 4 do not apply, and whose number of records is known:
+// answers 5 to 12, and what `step` writes. Where the records are counted, those of the table after it are;
+// else the counts stay.
+pub fn step_read(
+    c: Context,
+    e: Event,
+    table: &[u8],
+    count: usize,
+    raw: &[u8],
+    counting: bool,
+    cells: &mut [u16],
+    pcids: &mut [u16],
+    new: &mut [u8],
+) -> Step
+    requires { ⌜ first (table-grounds c (now table)) ≡ 0 ⌝ }
+    requires { ⌜ valid-here c (now raw) ≡ true ⌝ }
+    requires { ⌜ e ≡ event (now raw) ⌝ }
+    requires { ⌜ count ≡ length (records (now table)) ⌝ }
+    requires { ⌜ (counting ≡ true → Tallied (records (now table)) (now cells) (now pcids)) ⌝ }
+    ensures { λ r. ⌜ r ≡ stepped c (now (table .entry)) (now (raw .entry)) (length (now (new .entry))) ⌝ }
+    ensures { λ _. ⌜ now (new .exit) ≡ written c (now (table .entry)) (now (raw .entry)) (now (new .entry)) ⌝ }
+    ensures { λ _. ⌜ Carries counting (records-after c (now (table .entry)) (now (raw .entry)) (length (now (new .entry)))) (now (cells .entry)) (now (pcids .entry)) (now (cells .exit)) (now (pcids .exit)) ⌝ }
+{
+    let answer = answers::answer_to_event(c, e);
+    if answer != 0 {
+        return refused(answer, answers::rule_with_answer(c, e, answer), c);
+    }
+    if is_without_room(new.len(), table, raw) {
+        return refused(12, 0, c);
+    }
+    perform(c, e, table, count, raw, counting, cells, pcids, new)
+}
+
+// One event on a context and a table to which answers 1 to 3 do not apply, and whose number of records is known:
+// answers 4 to 12, and what `step` writes.
 pub fn step_judged(c: Context, table: &[u8], count: usize, event: &[u8], new: &mut [u8]) -> Step
     requires { ⌜ first (table-grounds c (now table)) ≡ 0 ⌝ }
     requires { ⌜ count ≡ length (records (now table)) ⌝ }
@@ -97,14 +161,19 @@ pub fn step_judged(c: Context, table: &[u8], count: usize, event: &[u8], new: &m
     let EventReading::Read(e) = events::read_event(c.linear_width, event) else {
         return refused(4, 0, c);
     };
-    let answer = answers::answer_to_event(c, e);
-    if answer != 0 {
-        return refused(answer, answers::rule_with_answer(c, e, answer), c);
-    }
-    if is_without_room(new.len(), table, event) {
-        return refused(12, 0, c);
-    }
-    perform(c, e, table, count, event, new)
+    let mut cells = [0u16; 1];
+    let mut pcids = [0u16; 1];
+    step_read(
+        c,
+        e,
+        table,
+        count,
+        event,
+        false,
+        &mut cells,
+        &mut pcids,
+        new,
+    )
 }
 
 // One event on a context and a table. An accepted event's new table is written to the front of the new

@@ -1,3 +1,4 @@
 pub mod Walk
 pub mod Judged
+pub mod Counts
 pub mod Laws

@@ -1,9 +1,17 @@
 // The walk over a table: whole, valid records of a linear width or not, and the answers 1 to 3.
 use model::Context;
+use tallies::KindCounts;
 ghost use mathlib.Core.Path.{_≡_};
-ghost use Rattle.model.specs.Answers.{first, stored-grounds, table-grounds};
+ghost use mathlib.Core.Bool.{true};
+ghost use mathlib.Core.List.{[]};
+ghost use Prim.Native.Nat.{_≤_};
+ghost use lib.ListN.{length};
+ghost use Rattle.model.specs.Tables.{limit, records};
+ghost use Rattle.model.specs.Answers.{first, valid-table, stored-grounds, table-grounds};
+ghost use Rattle.tallies.specs.Tallies.{Tallied};
 ghost use Rattle.tables.specs.Walk.{Tells};
 ghost use Rattle.tables.specs.Judged.{judged-records};
+ghost use Rattle.tables.specs.Counts.{counted-judged, uncounted, table-counts, table-pcid-counts};
 
 // What a walk over a table passed: bytes, and records.
 struct Passed {
@@ -17,17 +25,24 @@ pub struct Judged {
     pub records: usize,
 }
 
-// Passes over the whole, valid records of a linear width at the front of the table. Each record is read as the part of
-// the table that starts at its kind byte.
-fn walk(width: u64, table: &[u8]) -> Passed
+// Passes over the whole, valid records of a linear width at the front of the table, and counts them one by one where that
+// is asked for. Each record is read as the part of the table that starts at its kind byte.
+fn walk(width: u64, table: &[u8], counting: bool, cells: &mut [u16], pcids: &mut [u16]) -> Passed
+    requires { ⌜ length (now table) ≤ limit ⌝ }
+    requires { ⌜ (counting ≡ true → Tallied [] (now cells) (now pcids)) ⌝ }
     ensures { λ r. ⌜ Tells width (now (table .entry)) (r .bytes) (r .records) ⌝ }
+    ensures { λ _. ⌜ (counting ≡ true → valid-table width (now (table .entry)) ≡ true → Tallied (records (now (table .entry))) (now (cells .exit)) (now (pcids .exit))) ⌝ }
 {
     let mut at = 0;
     let mut records = 0;
     while at < table.len() {
-        let length = mappings::length_at(width, &table[at..]);
+        let part = &table[at..];
+        let length = mappings::length_at(width, part);
         if length == 0 {
             return Passed { bytes: at, records };
+        }
+        if counting {
+            tallies::add(part, cells, pcids);
         }
         at += length;
         records += 1;
@@ -36,9 +51,17 @@ fn walk(width: u64, table: &[u8]) -> Passed
 }
 
 // The answer that a table alone gives at a linear width: 2 or 3, else 0; and the number of records, 0 where the answer
-// is not 0.
-pub fn judge(width: u64, table: &[u8]) -> Judged
+// is not 0. Where that is asked for, the records of an accepted table are counted.
+fn judge_with(
+    width: u64,
+    table: &[u8],
+    counting: bool,
+    cells: &mut [u16],
+    pcids: &mut [u16],
+) -> Judged
+    requires { ⌜ (counting ≡ true → Tallied [] (now cells) (now pcids)) ⌝ }
     ensures { λ r. ⌜ (r .answer ≡ first (stored-grounds width (now (table .entry)))) × (r .records ≡ judged-records width (now (table .entry))) ⌝ }
+    ensures { λ r. ⌜ (counting ≡ true → r .answer ≡ 0 → Tallied (records (now (table .entry))) (now (cells .exit)) (now (pcids .exit))) ⌝ }
 {
     if model::TABLE_LIMIT < table.len() {
         return Judged {
@@ -46,7 +69,7 @@ pub fn judge(width: u64, table: &[u8]) -> Judged
             records: 0,
         };
     }
-    let passed = walk(width, table);
+    let passed = walk(width, table, counting, cells, pcids);
     if passed.bytes != table.len() {
         return Judged {
             answer: 3,
@@ -56,6 +79,91 @@ pub fn judge(width: u64, table: &[u8]) -> Judged
     Judged {
         answer: 0,
         records: passed.records,
+    }
+}
+
+// The answer that a table alone gives at a linear width: 2 or 3, else 0; and the number of records, 0 where the answer
+// is not 0.
+pub fn judge(width: u64, table: &[u8]) -> Judged
+    ensures { λ r. ⌜ (r .answer ≡ first (stored-grounds width (now (table .entry)))) × (r .records ≡ judged-records width (now (table .entry))) ⌝ }
+{
+    let mut cells = [0u16; 1];
+    let mut pcids = [0u16; 1];
+    judge_with(width, table, false, &mut cells, &mut pcids)
+}
+
+// What judging a table beside a tally tells: the answer and the number of records as above, whether the tally has the
+// counts of the table, and the counts by kind and span. Where the answer is not 0 it has not, and the counts are 0.
+pub struct CountedJudged {
+    pub answer: u64,
+    pub records: usize,
+    pub matching: bool,
+    pub cells: [u16; 30],
+}
+
+// Judges a table and counts its records, in one walk, and compares a tally with the counts.
+pub fn judge_counted(
+    width: u64,
+    table: &[u8],
+    kinds: [KindCounts; 6],
+    pcids: &[u16],
+) -> CountedJudged
+    ensures { λ r. ⌜ r ≡ counted-judged width (now (table .entry)) kinds (now (pcids .entry)) ⌝ }
+{
+    let mut cells = [0u16; 30];
+    let mut fresh = [0u16; 4096];
+    let judged = judge_with(width, table, true, &mut cells, &mut fresh);
+    if judged.answer != 0 {
+        return CountedJudged {
+            answer: judged.answer,
+            records: 0,
+            matching: false,
+            cells: [0u16; 30],
+        };
+    }
+    CountedJudged {
+        answer: 0,
+        records: judged.records,
+        matching: tallies::is_matching(kinds, pcids, &cells, &fresh),
+        cells,
+    }
+}
+
+// A fresh count of a table: the answer, and the counts by kind and span.
+pub struct TableCounts {
+    pub answer: u64,
+    pub kinds: [KindCounts; 6],
+}
+
+// What is told of a table that is not counted.
+fn not_counted(answer: u64) -> TableCounts
+    ensures { λ r. ⌜ r ≡ uncounted answer ⌝ }
+{
+    TableCounts {
+        answer,
+        kinds: tallies::no_rows(),
+    }
+}
+
+// Counts the records of a table. The answer is 2 or 3, of the table at a linear width, or 13, where there are not 4,096
+// counts for the PCIDs, else 0. A refusal leaves these as they are, and the counts by kind and span are 0.
+pub fn count(width: u64, table: &[u8], pcids: &mut [u16]) -> TableCounts
+    ensures { λ r. ⌜ r ≡ table-counts width (now (table .entry)) (length (now (pcids .entry))) ⌝ }
+    ensures { λ _. ⌜ now (pcids .exit) ≡ table-pcid-counts width (now (table .entry)) (now (pcids .entry)) ⌝ }
+{
+    let mut cells = [0u16; 30];
+    let mut fresh = [0u16; 4096];
+    let judged = judge_with(width, table, true, &mut cells, &mut fresh);
+    if judged.answer != 0 {
+        return not_counted(judged.answer);
+    }
+    if pcids.len() != 4096 {
+        return not_counted(13);
+    }
+    tallies::copy(&fresh, pcids);
+    TableCounts {
+        answer: 0,
+        kinds: tallies::update(tallies::no_rows(), &cells),
     }
 }
 

@@ -5,11 +5,21 @@ use std::fmt::Write;
 
 /// The bars.
 const TUNED_BAR: f64 = 2.0;
+const COUNTED_BAR: f64 = 1.3;
+const EMPTY_BAR: f64 = 2.0;
 const GROWTH_BAR: f64 = 2.2;
+
+/// The bar of counted steps holds for tables of so many records and more.
+const COUNTED_FROM: usize = 176;
+
+/// What is measured: how many times something else, or microseconds.
+const TIMES: &str = "times";
+const MICROSECONDS: &str = "us";
 
 /// One bar: what it is about, the worst that was measured, and where.
 struct Bar {
     about: &'static str,
+    unit: &'static str,
     limit: f64,
     worst: f64,
     at: String,
@@ -17,20 +27,25 @@ struct Bar {
 }
 
 impl Bar {
-    fn new(about: &'static str, limit: f64, measured: Vec<(f64, String)>) -> Bar {
+    fn new(
+        about: &'static str,
+        (limit, unit): (f64, &'static str),
+        measured: Vec<(f64, String)>,
+    ) -> Bar {
         let mut bar = Bar {
             about,
+            unit,
             limit,
             worst: 0.0,
             at: String::new(),
             missed: Vec::new(),
         };
-        for (times, name) in measured {
-            if times > limit {
-                bar.missed.push(format!("{name} {times:.2}"));
+        for (number, name) in measured {
+            if number > limit {
+                bar.missed.push(format!("{name} {number:.2}"));
             }
-            if times > bar.worst {
-                bar.worst = times;
+            if number > bar.worst {
+                bar.worst = number;
                 bar.at = name;
             }
         }
@@ -44,8 +59,8 @@ impl Bar {
             "MISS"
         };
         let mut out = format!(
-            "{verdict}  {}: at most {:.1} times; worst {:.2} ({})\n",
-            self.about, self.limit, self.worst, self.at
+            "{verdict}  {}: at most {:.1} {}; worst {:.2} ({})\n",
+            self.about, self.limit, self.unit, self.worst, self.at
         );
         if !self.missed.is_empty() {
             let _ = writeln!(out, "      missed by: {}", self.missed.join("; "));
@@ -62,6 +77,13 @@ pub fn bars(rows: &[Row]) -> String {
         .iter()
         .filter(|row| row.what == What::Step && full(row))
         .map(|row| (row.to_tuned(), name(row)));
+    let counted = || rows.iter().filter(|row| row.what == What::Counted);
+    let large = counted()
+        .filter(|row| row.records >= COUNTED_FROM)
+        .map(|row| (row.to_tuned(), format!("{}, {}", name(row), row.records)));
+    let empty = counted()
+        .filter(|row| row.records == 0)
+        .map(|row| (row.ours() / 1e3, name(row)));
     let replays = rows
         .iter()
         .filter(|row| row.what == What::Replay)
@@ -73,17 +95,27 @@ pub fn bars(rows: &[Row]) -> String {
     let bars = [
         Bar::new(
             "step on a full table, beside the tuned model",
-            TUNED_BAR,
+            (TUNED_BAR, TIMES),
             steps.collect(),
         ),
         Bar::new(
+            "counted step from 176 records, beside the tuned model",
+            (COUNTED_BAR, TIMES),
+            large.collect(),
+        ),
+        Bar::new(
+            "counted step on an empty table",
+            (EMPTY_BAR, MICROSECONDS),
+            empty.collect(),
+        ),
+        Bar::new(
             "replay of a log of 65,536 bytes, beside the tuned model",
-            TUNED_BAR,
+            (TUNED_BAR, TIMES),
             replays.collect(),
         ),
         Bar::new(
             "twice the records (1,408 to 2,816)",
-            GROWTH_BAR,
+            (GROWTH_BAR, TIMES),
             growths.collect(),
         ),
     ];
@@ -126,6 +158,43 @@ mod tests {
         assert_eq!(said.matches("MISS").count(), 2, "{said}");
         assert!(
             said.contains("      missed by: reset on mixed kinds 2.30\n"),
+            "{said}"
+        );
+    }
+
+    /// Counted steps have two bars of their own, and that of growth.
+    #[test]
+    fn bars_of_counted_steps() {
+        let counted = |records, times| Row {
+            what: What::Counted,
+            ..step(records, times)
+        };
+        let good = [
+            counted(0, [1_990.0, 100.0, 1.0]),
+            counted(16, [1_000.0, 100.0, 1.0]),
+            counted(176, [129.0, 100.0, 50.0]),
+        ];
+        let said = bars(&good);
+        assert!(!said.contains("MISS"), "{said}");
+        let due = "pass  counted step from 176 records, beside the tuned model: at most 1.3 \
+                   times; worst 1.29 (reset on mixed kinds, 176)\n\
+                   pass  counted step on an empty table: at most 2.0 us; worst 1.99 (reset on \
+                   mixed kinds)\n";
+        assert!(said.contains(due), "{said}");
+
+        let bad = [
+            counted(0, [2_100.0, 2_100.0, 1.0]),
+            counted(176, [131.0, 100.0, 50.0]),
+            counted(2_816, [150.0, 100.0, 50.0]),
+        ];
+        let said = bars(&bad);
+        assert_eq!(said.matches("MISS").count(), 2, "{said}");
+        assert!(
+            said.contains("      missed by: reset on mixed kinds, 176 1.31; reset on mixed kinds, 2816 1.50\n"),
+            "{said}"
+        );
+        assert!(
+            said.contains("      missed by: reset on mixed kinds 2.10\n"),
             "{said}"
         );
     }

@@ -1,6 +1,7 @@
 //! `bench [--csv FILE] [--svg FILE]`: what an event and a record cost.
 
 mod bars;
+mod counted;
 mod lookups;
 mod measure;
 mod plot;
@@ -19,7 +20,8 @@ use std::env;
 use std::fs::File;
 use std::io::{self, Write};
 use std::process::ExitCode;
-use tables::{Shape, COUNTS, SHAPES};
+use steps::Family;
+use tables::{Shape, Tables, COUNTS, SHAPES};
 
 const USAGE: &str = "usage: bench [--csv FILE] [--svg FILE]";
 
@@ -32,12 +34,22 @@ so that no table is learnt by heart. A creation on the fullest table finds one
 record fewer. The fullest tables of 48-bit addresses have 45,056 bytes, as they
 had before 57-bit addresses came; those of 57 bits go to the limit, and those
 that are converted have a few records fewer.
+A counted step has a tally besides, whose counts of PCIDs stand in one list that
+is made to match the next table before each call.
 'growth' is the time at 2,816 records over that at 1,408; a full table of
 mixed kinds has fewer, and its growth is scaled to twice the records.";
 
-/// How often all is measured, and how often in a row.
+/// How often all is measured.
 const PASSES: u32 = 12;
-const IN_A_ROW: u32 = 3;
+
+/// How often in a row. Replays take longer, and each is many calls already.
+fn in_a_row(what: What) -> u32 {
+    match what {
+        What::Step | What::Lookup | What::Widen => 3,
+        What::Counted => 2,
+        What::Replay => 1,
+    }
+}
 
 /// Where to write, besides standard output.
 #[derive(Default)]
@@ -104,9 +116,7 @@ fn bench(files: &Files) -> Result<(), String> {
     for pass in 1..=PASSES {
         tell(&format!("pass {pass} of {PASSES}"));
         for item in &mut items {
-            // Replays take longer, and each is many calls already.
-            let replay = item.row.what == What::Replay;
-            item.measure(if replay { 1 } else { IN_A_ROW });
+            item.measure(in_a_row(item.row.what));
         }
     }
     let rows: Vec<Row> = items.into_iter().map(|item| item.row).collect();
@@ -126,21 +136,26 @@ fn write(file: &Option<String>, text: &str) -> Result<(), String> {
     }
 }
 
+/// Makes an item of a family of events and some tables.
+type MakeStep = fn(&Family, &Tables, &Buffers) -> Result<Item, String>;
+
 fn items() -> Result<Vec<Item>, String> {
     let (buffers, others) = (Buffers::new(TABLE_LIMIT), Buffers::new(TABLE_LIMIT));
     let mut items = Vec::new();
-    for shape in SHAPES {
-        let sizes = COUNTS.map(|count| tables::tables(shape, count));
-        for family in steps::families() {
-            for tables in &sizes {
-                items.push(steps::item(&family, tables, &buffers)?);
+    for make in [steps::item as MakeStep, counted::item] {
+        for shape in SHAPES {
+            let sizes = COUNTS.map(|count| tables::tables(shape, count));
+            for family in steps::families() {
+                for tables in &sizes {
+                    items.push(make(&family, tables, &buffers)?);
+                }
             }
         }
-    }
-    let sizes = COUNTS.map(|count| tables::tables(Shape::Wide, count));
-    for family in steps::wide_families() {
-        for tables in &sizes {
-            items.push(steps::item(&family, tables, &buffers)?);
+        let sizes = COUNTS.map(|count| tables::tables(Shape::Wide, count));
+        for family in steps::wide_families() {
+            for tables in &sizes {
+                items.push(make(&family, tables, &buffers)?);
+            }
         }
     }
     for (shape, address) in [
@@ -177,6 +192,7 @@ mod tests {
         let items = items().expect("no difference");
         let count = |what| items.iter().filter(|item| item.row.what == what).count();
         assert_eq!(count(What::Step), (3 * 22 + 4) * COUNTS.len());
+        assert_eq!(count(What::Counted), count(What::Step));
         assert!(count(What::Lookup) > 30);
         assert_eq!(count(What::Widen), 2 * COUNTS.len());
         assert_eq!(count(What::Replay), 4);

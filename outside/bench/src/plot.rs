@@ -65,6 +65,7 @@ pub fn svg(rows: &[Row], table: &str) -> String {
         let points: Vec<&Row> = chosen.iter().filter(own).copied().collect();
         let title = match what {
             What::Lookup => format!("lookup: {family}"),
+            What::Counted => format!("counted: {family}"),
             _ => family.to_string(),
         };
         panel(&mut out, &axes, &title, &points);
@@ -159,14 +160,16 @@ mod tests {
         let rows = [
             row(What::Step, "reset", "alike", 16),
             row(What::Step, "reset", "alike", 176),
+            row(What::Counted, "reset", "alike", 16),
             row(What::Lookup, "linear, first", "alike", 16),
             row(What::Step, "INVLPG", "mixed", 16),
             row(What::Replay, "random events", "", 0),
         ];
         let svg = svg(&rows, "alike");
         assert!(svg.starts_with("<svg ") && svg.ends_with("</svg>\n"));
-        assert_eq!(svg.matches("<polyline ").count(), 2 * STYLES.len());
+        assert_eq!(svg.matches("<polyline ").count(), 3 * STYLES.len());
         assert!(svg.contains(">reset<") && svg.contains(">lookup: linear, first<"));
+        assert!(svg.contains(">counted: reset<"));
         assert!(!svg.contains("INVLPG") && !svg.contains("random events"));
     }
 }

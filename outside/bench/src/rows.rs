@@ -5,6 +5,8 @@ use crate::tables::COUNTS;
 #[derive(Clone, Copy, PartialEq, Eq)]
 pub enum What {
     Step,
+    /// A step with a tally.
+    Counted,
     Lookup,
     /// The converter of 48-bit tables.
     Widen,
@@ -15,6 +17,7 @@ impl What {
     pub fn name(self) -> &'static str {
         match self {
             What::Step => "step",
+            What::Counted => "counted step",
             What::Lookup => "lookup",
             What::Widen => "widen",
             What::Replay => "replay",

@@ -1,4 +1,4 @@
-//! Steps: each family of events on each table.
+//! Steps without a tally: each family of events on each table.
 
 use crate::measure::{plain_copy, time, Buffers, Calls, Item, Shared};
 use crate::rows::{Row, What};
@@ -11,8 +11,8 @@ use std::rc::Rc;
 /// A family of events: one event, and the context it comes in.
 pub struct Family {
     pub name: &'static str,
-    context: Context,
-    event: Vec<u8>,
+    pub context: Context,
+    pub event: Vec<u8>,
 }
 
 fn invvpid(kind: u64) -> Vec<u8> {
@@ -112,7 +112,7 @@ pub fn item(family: &Family, tables: &Tables, buffers: &Buffers) -> Result<Item,
 }
 
 /// The old tables: a creation on the fullest ones finds one record fewer.
-fn old_tables(family: &Family, tables: &Tables) -> Vec<Vec<u8>> {
+pub fn old_tables(family: &Family, tables: &Tables) -> Vec<Vec<u8>> {
     let mut olds = tables.all.clone();
     let (width, limit) = (tables.shape.linear_width(), tables.shape.limit());
     for table in &mut olds {
@@ -130,7 +130,7 @@ fn library(family: &Family, olds: Rc<Vec<Vec<u8>>>, new: Shared) -> Calls {
         let mut new = new.borrow_mut();
         time(olds.len(), || {
             for old in olds.iter() {
-                black_box(bridge::step_flat(
+                black_box(bridge::plain_step_flat(
                     black_box(&context),
                     old,
                     &event,
@@ -159,7 +159,7 @@ fn agree(family: &Family, olds: &[Vec<u8>], buffers: &Buffers) -> Result<(), Str
     let mut ours = buffers.0[0].borrow_mut();
     let mut theirs = buffers.0[1].borrow_mut();
     for old in olds {
-        let got = bridge::step(&family.context, old, &family.event, &mut ours);
+        let got = bridge::plain_step(&family.context, old, &family.event, &mut ours);
         let due = tuned::step(&family.context, old, &family.event, &mut theirs);
         let new = ours[..got.length] == theirs[..due.length];
         if got != due || !new || due.answer != 0 {

@@ -1,12 +1,17 @@
 //! The proved library on the independent model's types, so that the two can be
 //! compared. The wrapper has types of its own, and of the model only the plain
-//! types of a context, an address and a result are used, none of its rules.
+//! types of a context, an address, a tally and a result are used, none of its
+//! rules.
+
+mod tally;
 
 use model::{Address, Context, Place, Reason};
 pub use skuldrefn::{
-    explain_flat, replay_flat, step_flat, FlatContext, FlatReason, FlatReplayed, FlatStep, Part,
+    explain_flat, plain_step_flat, replay_flat, FlatContext, FlatReason, FlatReplayed, FlatStep,
+    Part,
 };
 use std::ops::Range;
+pub use tally::{count, count_lent, counted_step_lent, step_flat};
 
 /// A context of the model as numbers; fields that its place lacks are 0.
 pub fn flat(context: &Context) -> FlatContext {
@@ -75,12 +80,19 @@ pub fn lookup(
     (part.answer, (part.length > 0).then_some(place))
 }
 
-/// One step, with the model's context after it.
+/// One step without a tally, with the model's context after it.
 ///
 /// # Panics
 /// If the library hands back a context that is none.
-pub fn step(context: &Context, table: &[u8], event: &[u8], new: &mut [u8]) -> model::Step {
-    let step = step_flat(&flat(context), table, event, new);
+pub fn plain_step(context: &Context, table: &[u8], event: &[u8], new: &mut [u8]) -> model::Step {
+    of_flat(&plain_step_flat(&flat(context), table, event, new))
+}
+
+/// What a step reports, with the model's context.
+///
+/// # Panics
+/// If the context is none.
+pub fn of_flat(step: &FlatStep) -> model::Step {
     model::Step {
         answer: step.answer,
         rule: step.rule,

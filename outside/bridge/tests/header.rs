@@ -2,8 +2,10 @@
 
 use common::{KINDS, LINEAR_WIDTHS};
 use model::{LinearWidth, Reason};
+use skuldrefn::raw::{Counted, CountedStep};
 use std::env::temp_dir;
 use std::fs;
+use std::mem::{offset_of, size_of};
 use std::path::{Path, PathBuf};
 use std::process::{id, Command, Output};
 
@@ -12,6 +14,7 @@ const PRINTED: &str = "\
 2 0 0 0
 3 0 0 17
 12345678h: the record just created
+records of PCID 1: 1
 at 57 bits: 18 bytes
 4 0 0 17
 INVVPID: takes the record
@@ -43,15 +46,15 @@ impl Drop for Temporary {
     }
 }
 
-#[test]
-fn the_example_runs() {
+/// What a program in C prints, built with every warning an error; it must end
+/// well. None if there is no `cc`.
+fn printed(name: &str, source: &Path) -> Option<String> {
     let cc = Path::new("cc");
     if run(cc, &["--version"]).is_none() {
         println!("there is no cc; nothing was built");
-        return;
+        return None;
     }
-    let program = Temporary::new("example");
-    let source = folder().join("example.c");
+    let program = Temporary::new(name);
     let include = format!("-I{}", folder().display());
     let library = Path::new(skuldrefn::LIBRARY).join("libskuldrefn.a");
     let built = Command::new(cc)
@@ -72,9 +75,96 @@ fn the_example_runs() {
         .expect("cc starts");
     let said = String::from_utf8_lossy(&built.stderr);
     assert!(built.status.success(), "{said}");
-    let output = run(&program.0, &[]).expect("the example starts");
-    assert_eq!(String::from_utf8_lossy(&output.stdout), PRINTED);
+    let output = run(&program.0, &[]).expect("the program starts");
     assert!(output.status.success());
+    Some(String::from_utf8_lossy(&output.stdout).into_owned())
+}
+
+#[test]
+fn the_example_runs() {
+    if let Some(printed) = printed("example", &folder().join("example.c")) {
+        assert_eq!(printed, PRINTED);
+    }
+}
+
+/// Steps with a tally in one struct, right and wrong, and prints each answer
+/// with the tally's count of the record; then the sizes of the structs.
+const TALLY: &str = r#"
+#include "skuldrefn.h"
+#include <stdio.h>
+
+static const uint8_t record[17] = {1, 0, 0, 7, 0, 0, 2};
+static const uint8_t to_pcid_7[4] = {24, 7, 0, 0};
+static const uint8_t reset[1] = {25};
+static uint8_t table[17], other[17];
+
+static void say(skuldrefn_step_result step, const skuldrefn_tally *tally)
+{
+    printf("%d %d %d, %d %d\n", (int)step.answer, (int)step.length, (int)step.dropped,
+        tally->kinds.rows[0].spans[2], tally->pcids[7]);
+}
+
+int main(void)
+{
+    skuldrefn_context context = {
+        SKULDREFN_PROGRAM_CAPABILITY, SKULDREFN_PROGRAM_WIDTH, SKULDREFN_PROGRAM_LINEAR_WIDTH,
+        0, 0, SKULDREFN_OUTSIDE, 0, 0, 0};
+    skuldrefn_tally tally = {0};
+    skuldrefn_tally wrong = {0};
+    skuldrefn_step_result step;
+
+    step = skuldrefn_step_tally(context, &tally, NULL, 0, to_pcid_7, 4, table, 17);
+    say(step, &tally);
+    context = step.context;
+    say(skuldrefn_step_tally(context, &tally, NULL, 0, record, 17, table, 16), &tally);
+    say(skuldrefn_step_tally(context, &tally, NULL, 0, record, 17, table, 17), &tally);
+    say(skuldrefn_step_tally(context, &wrong, table, 17, reset, 1, other, 17), &wrong);
+    say(skuldrefn_plain_step(context, table, 17, reset, 1, other, 17), &wrong);
+    for (int i = 0; i < 3; i++) {
+        static const struct { uint64_t width; size_t length; } counts[3] = {
+            {48, 16}, {48, 17}, {57, 17}};
+        uint64_t answer = skuldrefn_count_tally(counts[i].width, table, counts[i].length, &wrong);
+        printf("%d, %d %d\n", (int)answer, wrong.kinds.rows[0].spans[2], wrong.pcids[7]);
+    }
+    say(skuldrefn_step_tally(context, &wrong, table, 17, reset, 1, other, 17), &wrong);
+    printf("%zu %zu %zu %zu %zu\n", sizeof(skuldrefn_row), sizeof(skuldrefn_kinds),
+        sizeof(skuldrefn_counted_step), offsetof(skuldrefn_counted_step, kinds),
+        sizeof(skuldrefn_counted));
+    return 0;
+}
+"#;
+
+#[test]
+fn a_tally_in_c() {
+    let source = Temporary::new("tally.c");
+    fs::write(&source.0, TALLY).expect("a file");
+    let Some(printed) = printed("tally", &source.0) else {
+        return;
+    };
+    let (steps, sizes) = printed.trim_end().rsplit_once('\n').expect("lines");
+    let due = [
+        "0 0 0, 0 0",
+        // No room; then it is created.
+        "12 0 0, 0 0",
+        "0 17 0, 1 1",
+        // The tally of an empty table; the plain step asks for none.
+        "13 0 0, 0 0",
+        "0 0 1, 0 0",
+        // A cut table, the table, and the table at the other width.
+        "3, 0 0",
+        "0, 1 1",
+        "3, 1 1",
+        "0 0 1, 0 0",
+    ];
+    assert_eq!(steps.lines().collect::<Vec<_>>(), due);
+    let due = [
+        size_of::<skuldrefn::Row>(),
+        size_of::<skuldrefn::Kinds>(),
+        size_of::<CountedStep>(),
+        offset_of!(CountedStep, kinds),
+        size_of::<Counted>(),
+    ];
+    assert_eq!(sizes, due.map(|size| size.to_string()).join(" "));
 }
 
 fn header() -> String {
@@ -85,7 +175,7 @@ fn header() -> String {
 #[test]
 fn the_header_names_every_answer() {
     let header = header();
-    for answer in 0..=12 {
+    for answer in 0..=13 {
         let number = format!("= {answer}, ");
         let last = format!("= {answer} ");
         assert!(
@@ -101,6 +191,7 @@ fn the_header_has_the_limits_and_the_programs_numbers() {
     for (name, number) in [
         ("TABLE_LIMIT", model::TABLE_LIMIT.to_string()),
         ("LOG_LIMIT", model::LOG_LIMIT.to_string()),
+        ("PCIDS", "4096".to_string()),
         ("ROW", common::ROW.to_string()),
         (
             "PROGRAM_CAPABILITY",
@@ -118,7 +209,9 @@ fn the_header_has_the_limits_and_the_programs_numbers() {
     }
     assert_eq!(skuldrefn::TABLE_LIMIT, model::TABLE_LIMIT);
     assert_eq!(skuldrefn::LOG_LIMIT, model::LOG_LIMIT);
+    assert_eq!(skuldrefn::PCIDS, 4_096);
     assert_eq!(skuldrefn::ROW, common::ROW);
+    assert_eq!(skuldrefn::PCIDS, model::PCIDS);
     assert_eq!(skuldrefn::PROGRAM_CAPABILITY, model::PROGRAM_CAPABILITY);
     assert_eq!(skuldrefn::PROGRAM_WIDTH, model::PROGRAM_WIDTH);
     assert_eq!(skuldrefn::PROGRAM_LINEAR_WIDTH, model::PROGRAM_LINEAR_WIDTH);
@@ -216,6 +309,16 @@ fn the_header_has_the_contexts_fields() {
     assert_eq!(names, due);
     let size = std::mem::size_of::<skuldrefn::FlatContext>();
     assert_eq!(size, 8 * (1 + due.len()));
+}
+
+/// Six rows of five counts of two bytes, with nothing between them.
+#[test]
+fn the_shape_of_a_tally() {
+    assert_eq!(std::mem::size_of::<skuldrefn::Row>(), 2 * 5);
+    assert_eq!(std::mem::size_of::<skuldrefn::Kinds>(), 2 * 5 * 6);
+    let tally = skuldrefn::Tally::new();
+    assert_eq!(tally.kinds, skuldrefn::Kinds::default());
+    assert_eq!(tally.pcids, vec![0; model::PCIDS]);
 }
 
 #[test]

@@ -22,6 +22,9 @@ pub const TABLE_LIMIT: usize = 47_104;
 /// The longest log that the replay program reads, in bytes.
 pub const LOG_LIMIT: usize = 65_536;
 
+/// How many PCIDs there are, and so how many counts a tally has for them (document 02, Ask 7).
+pub const PCIDS: usize = 4_096;
+
 /// Pages of guest-physical addresses, and of linear ones of 48 bits, are below this: 2^36.
 pub const PAGES: u64 = 1 << 36;
 

@@ -12,6 +12,7 @@ use model::{Context, LinearWidth};
 fn the_limits_and_the_programs_numbers() {
     assert_eq!(common::TABLE_LIMIT, model::TABLE_LIMIT);
     assert_eq!(common::LOG_LIMIT, model::LOG_LIMIT);
+    assert_eq!(common::PCIDS, model::PCIDS);
     assert_eq!(common::PROGRAM_CAPABILITY, model::PROGRAM_CAPABILITY);
     assert_eq!(common::PROGRAM_WIDTH, model::PROGRAM_WIDTH);
     assert_eq!(common::PROGRAM_LINEAR_WIDTH, model::PROGRAM_LINEAR_WIDTH);

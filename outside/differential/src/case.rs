@@ -1,11 +1,12 @@
 //! Cases: what is compared, as text that can be replayed.
 
+use crate::count::CountCase;
 use crate::explain::ExplainCase;
 use crate::lookup::LookupCase;
+use crate::reached::Reached;
 use crate::replay::ReplayCase;
 use crate::run::RunCase;
 use crate::step::StepCase;
-use crate::tally::Tally;
 use crate::widen::WidenCase;
 use model::LinearWidth;
 use std::fmt;
@@ -15,6 +16,7 @@ use std::time::{Duration, Instant};
 #[derive(Clone, Debug, PartialEq, Eq)]
 pub enum Case {
     Step(StepCase),
+    Count(CountCase),
     Lookup(LookupCase),
     Explain(ExplainCase),
     Run(RunCase),
@@ -31,20 +33,21 @@ pub struct Failure {
 
 impl Case {
     /// Compares the library with the model.
-    pub fn check(&self, tally: &mut Tally) -> Result<(), String> {
+    pub fn check(&self, reached: &mut Reached) -> Result<(), String> {
         match self {
-            Case::Step(case) => case.check(tally),
-            Case::Lookup(case) => case.check(tally),
-            Case::Explain(case) => case.check(tally),
-            Case::Run(case) => case.check(tally),
-            Case::Replay(case) => case.check(tally),
-            Case::Widen(case) => case.check(tally),
+            Case::Step(case) => case.check(reached),
+            Case::Count(case) => case.check(reached),
+            Case::Lookup(case) => case.check(reached),
+            Case::Explain(case) => case.check(reached),
+            Case::Run(case) => case.check(reached),
+            Case::Replay(case) => case.check(reached),
+            Case::Widen(case) => case.check(reached),
         }
     }
 
     /// The same, with the case itself if they differ.
-    pub fn compare(self, tally: &mut Tally) -> Result<(), Failure> {
-        match self.check(tally) {
+    pub fn compare(self, reached: &mut Reached) -> Result<(), Failure> {
+        match self.check(reached) {
             Ok(()) => Ok(()),
             Err(why) => {
                 let case = Box::new(self);
@@ -57,6 +60,7 @@ impl Case {
     fn smaller(&self) -> Vec<Case> {
         match self {
             Case::Step(case) => case.smaller().into_iter().map(Case::Step).collect(),
+            Case::Count(case) => case.smaller().into_iter().map(Case::Count).collect(),
             Case::Lookup(case) => case.smaller().into_iter().map(Case::Lookup).collect(),
             Case::Explain(case) => case.smaller().into_iter().map(Case::Explain).collect(),
             Case::Run(case) => case.smaller().into_iter().map(Case::Run).collect(),
@@ -70,6 +74,7 @@ impl fmt::Display for Case {
     fn fmt(&self, f: &mut fmt::Formatter) -> fmt::Result {
         match self {
             Case::Step(case) => case.fmt(f),
+            Case::Count(case) => case.fmt(f),
             Case::Lookup(case) => case.fmt(f),
             Case::Explain(case) => case.fmt(f),
             Case::Run(case) => case.fmt(f),
@@ -88,7 +93,7 @@ impl Failure {
                 if start.elapsed() > Duration::from_secs(5) {
                     return self;
                 }
-                if let Err(failure) = case.compare(&mut Tally::default()) {
+                if let Err(failure) = case.compare(&mut Reached::default()) {
                     self = failure;
                     continue 'again;
                 }

@@ -1,6 +1,7 @@
 //! What to say of results that differ.
 
 use bridge::FlatContext;
+use model::Kinds;
 
 /// The fields in which two contexts differ.
 pub fn context_differences(got: &FlatContext, due: &FlatContext) -> Vec<String> {
@@ -20,6 +21,20 @@ pub fn context_differences(got: &FlatContext, due: &FlatContext) -> Vec<String> 
         .filter(|(_, got, due)| got != due)
         .map(|(name, got, due)| format!("{name} is {got:#x} and should be {due:#x}"));
     differences.collect()
+}
+
+/// The counts in which two tallies' rows differ.
+pub fn kinds_differences(got: &Kinds, due: &Kinds) -> Vec<String> {
+    let mut differences = Vec::new();
+    for (row, (got, due)) in got.iter().zip(due).enumerate() {
+        for (span, (got, due)) in got.iter().zip(due).enumerate() {
+            if got != due {
+                let name = format!("the count of kind {} and span {span}", row + 1);
+                differences.push(format!("{name} is {got} and should be {due}"));
+            }
+        }
+    }
+    differences
 }
 
 /// What to say of a number that is not the one due.

@@ -1,6 +1,7 @@
 //! Random cases.
 
 use crate::buffer::Buffer;
+use crate::count::CountCase;
 use crate::explain::ExplainCase;
 use crate::lookup::LookupCase;
 use crate::replay::{starts, ReplayCase};
@@ -8,8 +9,8 @@ use crate::run::{Moment, RunCase};
 use crate::step::StepCase;
 use crate::widen::WidenCase;
 use bridge::FlatContext;
-use common::{LINEAR_WIDTHS, LOG_LIMIT, ROW, TABLE_LIMIT};
-use generate::{start, Rng};
+use common::{LINEAR_WIDTHS, LOG_LIMIT, PCIDS, ROW, TABLE_LIMIT};
+use generate::{start, Rng, BAD_LINEAR_WIDTHS};
 use model::{Context, Place};
 
 /// Numbers near the bounds of what a place or an EPT state can be.
@@ -74,9 +75,29 @@ pub fn step(rng: &mut Rng) -> StepCase {
     let case = generate::case(rng);
     StepCase {
         context: any_flat(rng, &case.context),
+        tally: case.tally,
         table: case.table,
         event: case.event,
         new: buffer(rng, case.new.len()),
+    }
+}
+
+/// A fresh count, mostly of a valid table and into a list of 4,096.
+pub fn count(rng: &mut Rng) -> CountCase {
+    let case = generate::case(rng);
+    let length = match rng.below(8) {
+        0 => rng.pick(&[0, 1, PCIDS - 1, PCIDS + 1, 2 * PCIDS]),
+        _ => PCIDS,
+    };
+    let linear_width = match rng.below(12) {
+        0 => rng.pick(&LINEAR_WIDTHS),
+        1 => rng.pick(&BAD_LINEAR_WIDTHS),
+        _ => case.context.linear_width,
+    };
+    CountCase {
+        linear_width,
+        table: case.table,
+        pcids: buffer(rng, length),
     }
 }
 

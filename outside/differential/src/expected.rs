@@ -2,13 +2,31 @@
 
 use bridge::{FlatContext, FlatReason, FlatReplayed, FlatStep, Part};
 use common::{write_row, ROW};
-use model::{Address, Context, LinearWidth, Reason};
+use model::{Address, Context, LinearWidth, Reason, Step, Tally, PCIDS};
 use std::mem::swap;
 use std::ops::Range;
 
-/// One step. A place or EPT number that stands for nothing is out of its
-/// range; a refusal hands back the context as it came.
-pub fn step(context: &FlatContext, table: &[u8], event: &[u8], new: &mut [u8]) -> FlatStep {
+/// One step without a tally.
+pub fn plain_step(context: &FlatContext, table: &[u8], event: &[u8], new: &mut [u8]) -> FlatStep {
+    on_flat(context, |known| model::step(known, table, event, new))
+}
+
+/// One counted step.
+pub fn step(
+    context: &FlatContext,
+    tally: &mut Tally,
+    table: &[u8],
+    event: &[u8],
+    new: &mut [u8],
+) -> FlatStep {
+    on_flat(context, |known| {
+        model::counted_step(known, tally, table, event, new)
+    })
+}
+
+/// A step on a context as numbers. A place or EPT number that stands for
+/// nothing is out of its range; a refusal hands back the context as it came.
+fn on_flat(context: &FlatContext, step: impl FnOnce(&Context) -> Step) -> FlatStep {
     let refused = |answer, rule| FlatStep {
         answer,
         rule,
@@ -19,7 +37,7 @@ pub fn step(context: &FlatContext, table: &[u8], event: &[u8], new: &mut [u8]) -
     let Some(known) = bridge::context(context) else {
         return refused(1, 0);
     };
-    let step = model::step(&known, table, event, new);
+    let step = step(&known);
     if step.answer != 0 {
         return refused(step.answer, step.rule);
     }
@@ -29,6 +47,17 @@ pub fn step(context: &FlatContext, table: &[u8], event: &[u8], new: &mut [u8]) -
         context: bridge::flat(&step.context),
         length: step.length,
         dropped: step.dropped,
+    }
+}
+
+/// A fresh count into a list of so many PCIDs; Err is the answer. Any linear
+/// width but 57 is read as 48.
+pub fn count(linear_width: u64, table: &[u8], length: usize) -> Result<Tally, u64> {
+    let tally = model::count(LinearWidth::of(linear_width), table)?;
+    if length == PCIDS {
+        Ok(tally)
+    } else {
+        Err(13)
     }
 }
 
@@ -89,7 +118,7 @@ pub fn replay(
         };
         let known = model::replay::first_event(LinearWidth::of(linear_width), rest);
         let event = known.unwrap_or(rest);
-        let step = step(&end.context, &old[..end.length], event, new);
+        let step = plain_step(&end.context, &old[..end.length], event, new);
         if step.answer == 0 {
             end.context = step.context;
             end.length = step.length;

@@ -3,8 +3,8 @@
 use crate::case::smaller_tables;
 use crate::difference::{all_same, difference};
 use crate::expected;
+use crate::reached::Reached;
 use crate::step::StepCase;
-use crate::tally::Tally;
 use crate::text::{bytes, context};
 use bridge::FlatContext;
 use std::fmt;
@@ -29,7 +29,7 @@ impl From<StepCase> for ExplainCase {
 }
 
 impl ExplainCase {
-    pub fn check(&self, tally: &mut Tally) -> Result<(), String> {
+    pub fn check(&self, reached: &mut Reached) -> Result<(), String> {
         // The library gets copies, so that a write to them shows.
         let (record, event) = (self.record.clone(), self.event.clone());
         let due = expected::explain(&self.context, &self.record, &self.event);
@@ -43,7 +43,7 @@ impl ExplainCase {
         if record != self.record || event != self.event {
             return Err("the record or the event was written to".to_string());
         }
-        let counts = tally.at(self.context.linear_width);
+        let counts = reached.at(self.context.linear_width);
         counts.reasons[due.reason as usize] += 1;
         counts.refusals[due.answer as usize] += 1;
         counts.reason_rules[due.rule as usize] += 1;

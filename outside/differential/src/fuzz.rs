@@ -1,6 +1,6 @@
 //! `fuzz [COUNT] [SEED]`: compares the library with the model.
 
-use differential::{parse, work, Failure, Tally};
+use differential::{parse, work, Failure, Reached};
 use std::env;
 use std::fmt::Arguments;
 use std::io::{self, Read, Write};
@@ -75,10 +75,10 @@ fn clock() -> u64 {
 
 fn fuzz(count: u64, seed: u64) -> io::Result<ExitCode> {
     print(format_args!("seed {seed}"))?;
-    let mut tally = Tally::default();
+    let mut reached = Reached::default();
     let mut progress = Progress::new(count);
     for number in 0..count {
-        if let Err(failure) = work::round(seed, number, &mut tally) {
+        if let Err(failure) = work::round(seed, number, &mut reached) {
             tell(format_args!(
                 "round {number} of seed {seed}: making the case smaller"
             ));
@@ -86,9 +86,9 @@ fn fuzz(count: u64, seed: u64) -> io::Result<ExitCode> {
             print(format_args!("seed {seed}, round {number}"))?;
             return Ok(ExitCode::FAILURE);
         }
-        progress.show(number + 1, &tally);
+        progress.show(number + 1, &reached);
     }
-    print(format_args!("{tally}"))?;
+    print(format_args!("{reached}"))?;
     print(format_args!("{count} rounds, no difference"))?;
     Ok(ExitCode::SUCCESS)
 }
@@ -119,7 +119,7 @@ fn again(file: &str) -> io::Result<ExitCode> {
         Ok(case) => case,
         Err(why) => return Ok(wrong(&format!("{file}: {why}"))),
     };
-    match case.compare(&mut Tally::default()) {
+    match case.compare(&mut Reached::default()) {
         Ok(()) => {
             print(format_args!("no difference"))?;
             Ok(ExitCode::SUCCESS)
@@ -148,13 +148,13 @@ impl Progress {
         }
     }
 
-    fn show(&mut self, done: u64, tally: &Tally) {
+    fn show(&mut self, done: u64, reached: &Reached) {
         if self.shown.elapsed() < Duration::from_secs(1) {
             return;
         }
         self.shown = Instant::now();
         let seconds = self.start.elapsed().as_secs_f64();
-        let calls = tally.calls();
+        let calls = reached.calls();
         let rate = calls as f64 / seconds;
         let left = (self.count - done) as f64 * seconds / done as f64;
         tell(format_args!(

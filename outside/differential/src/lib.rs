@@ -1,13 +1,14 @@
 //! The proved library against the independent model.
 //!
-//! A case is the inputs of a step, of the lookups of one address, of an
-//! explanation, of a run, of a replay or of a conversion. It is compared whole:
-//! answers, contexts, numbers, and each byte of each buffer that was lent. A case in
+//! A case is the inputs of a step, of a fresh count, of the lookups of one
+//! address, of an explanation, of a run, of a replay or of a conversion. It is
+//! compared whole: answers, contexts, numbers, each count of a tally, and each
+//! byte of each buffer that was lent. A case in
 //! which the two differ is made smaller, if it can be, and printed as text that
 //! `fuzz --case` reads.
 //!
-//! * [`case`], [`step`], [`lookup`], [`explain`], [`run`], [`replay`], [`widen`]: the
-//!   cases.
+//! * [`case`], [`step`], [`count`], [`lookup`], [`explain`], [`run`], [`replay`],
+//!   [`widen`]: the cases.
 //! * [`expected`]: what the model says, in the library's form.
 //! * [`draw`], [`sweep`]: random cases, and all those near some bounds.
 //! * [`work`]: how many of each make up a round.
@@ -15,21 +16,22 @@
 
 pub mod buffer;
 pub mod case;
+pub mod count;
 mod difference;
 pub mod draw;
 pub mod expected;
 pub mod explain;
 pub mod lookup;
 mod parse;
+pub mod reached;
 pub mod replay;
 pub mod run;
 pub mod step;
 pub mod sweep;
-pub mod tally;
 pub mod text;
 pub mod widen;
 pub mod work;
 
 pub use case::{Case, Failure};
 pub use parse::parse;
-pub use tally::Tally;
+pub use reached::Reached;

@@ -3,7 +3,7 @@
 use crate::case::smaller_tables;
 use crate::difference::{all_same, difference};
 use crate::expected;
-use crate::tally::Tally;
+use crate::reached::Reached;
 use crate::text::{address, bytes, context};
 use bridge::FlatContext;
 use model::Address;
@@ -21,7 +21,7 @@ pub struct LookupCase {
 const BUDGET: usize = 1 << 21;
 
 impl LookupCase {
-    pub fn check(&self, tally: &mut Tally) -> Result<(), String> {
+    pub fn check(&self, reached: &mut Reached) -> Result<(), String> {
         let table = self.table.clone();
         let (answer, usable) = expected::usable(&self.context, &self.table, self.address);
         for k in indices(usable.len(), self.table.len()) {
@@ -34,7 +34,7 @@ impl LookupCase {
             ];
             all_same(differences.into_iter().flatten().collect())
                 .map_err(|why| format!("k = {k:#x}: {why}"))?;
-            let counts = tally.at(self.context.linear_width);
+            let counts = reached.at(self.context.linear_width);
             counts.lookups[answer as usize] += 1;
             counts.found += u64::from(due.length > 0);
         }

@@ -2,6 +2,7 @@
 
 use crate::buffer::Buffer;
 use crate::case::Case;
+use crate::count::CountCase;
 use crate::explain::ExplainCase;
 use crate::lookup::LookupCase;
 use crate::replay::ReplayCase;
@@ -9,7 +10,8 @@ use crate::run::{Moment, RunCase};
 use crate::step::StepCase;
 use crate::widen::WidenCase;
 use bridge::FlatContext;
-use model::Address;
+use generate::SparseTally;
+use model::{Address, Kinds};
 
 /// Reads a case back. Lines before the one that starts with `case` are
 /// skipped, and so are those after its end.
@@ -20,6 +22,7 @@ pub fn parse(text: &str) -> Result<Case, String> {
     }
     match lines.take("case")? {
         "step" => lines.step().map(Case::Step),
+        "count" => lines.count().map(Case::Count),
         "lookup" => lines.lookup().map(Case::Lookup),
         "explain" => lines.explain().map(Case::Explain),
         "run" => lines.run().map(Case::Run),
@@ -74,18 +77,49 @@ impl<'a> Lines<'a> {
         self.take(name)?.split_whitespace().map(byte).collect()
     }
 
-    fn numbers<const N: usize>(&mut self, name: &str) -> Result<[u64; N], String> {
-        let words: Vec<&str> = self.take(name)?.split_whitespace().collect();
-        if words.len() != N {
-            return Err(format!("{name}: {} numbers and not {N}", words.len()));
-        }
-        let mut numbers = [0; N];
-        for (number, word) in numbers.iter_mut().zip(words) {
+    /// A line of any numbers.
+    fn any_numbers(&mut self, name: &str) -> Result<Vec<u64>, String> {
+        let number = |word: &str| {
             let digits = word.strip_prefix("0x").unwrap_or("");
-            *number = u64::from_str_radix(digits, 16)
-                .map_err(|_| format!("{name}: '{word}' is no number with 0x"))?;
+            u64::from_str_radix(digits, 16)
+                .map_err(|_| format!("{name}: '{word}' is no number with 0x"))
+        };
+        self.take(name)?.split_whitespace().map(number).collect()
+    }
+
+    fn numbers<const N: usize>(&mut self, name: &str) -> Result<[u64; N], String> {
+        let numbers = self.any_numbers(name)?;
+        let count = numbers.len();
+        let wrong = |_| format!("{name}: {count} numbers and not {N}");
+        numbers.try_into().map_err(wrong)
+    }
+
+    fn tally(&mut self) -> Result<SparseTally, String> {
+        let count = |number: u64| {
+            u16::try_from(number).map_err(|_| format!("{number:#x} is too large for a count"))
+        };
+        let mut kinds = Kinds::default();
+        let numbers: [u64; 30] = self.numbers("kinds")?;
+        for (cell, number) in kinds.as_flattened_mut().iter_mut().zip(numbers) {
+            *cell = count(number)?;
         }
-        Ok(numbers)
+        let numbers = self.any_numbers("pcids")?;
+        let (length, pairs) = numbers.split_first().ok_or("pcids: no length")?;
+        if *length > 1 << 32 {
+            return Err(format!("pcids: a list of {length:#x}"));
+        }
+        let mut tally = SparseTally {
+            kinds,
+            length: *length as usize,
+            ..SparseTally::empty()
+        };
+        for pair in pairs.chunks(2) {
+            match pair {
+                [pcid, number] if pcid < length => tally.set(*pcid as usize, count(*number)?),
+                _ => return Err(format!("pcids: {pair:#x?} is no PCID and its count")),
+            }
+        }
+        Ok(tally)
     }
 
     fn context(&mut self) -> Result<FlatContext, String> {
@@ -131,9 +165,19 @@ impl<'a> Lines<'a> {
     fn step(&mut self) -> Result<StepCase, String> {
         Ok(StepCase {
             context: self.context()?,
+            tally: self.tally()?,
             table: self.bytes("table")?,
             event: self.bytes("event")?,
             new: self.buffer("new")?,
+        })
+    }
+
+    fn count(&mut self) -> Result<CountCase, String> {
+        let [linear_width] = self.numbers("width")?;
+        Ok(CountCase {
+            linear_width,
+            table: self.bytes("table")?,
+            pcids: self.buffer("pcids")?,
         })
     }
 

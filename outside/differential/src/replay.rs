@@ -4,7 +4,7 @@ use crate::buffer::Buffer;
 use crate::case::parts;
 use crate::difference::{all_same, context_differences, difference};
 use crate::expected;
-use crate::tally::Tally;
+use crate::reached::Reached;
 use crate::text::{buffer, bytes, numbers};
 use bridge::{lines, FlatReplayed};
 use common::{LOG_LIMIT, ROW, TABLE_LIMIT};
@@ -24,7 +24,7 @@ pub struct ReplayCase {
 }
 
 impl ReplayCase {
-    pub fn check(&self, tally: &mut Tally) -> Result<(), String> {
+    pub fn check(&self, reached: &mut Reached) -> Result<(), String> {
         let lend = || [self.first.lend(), self.second.lend(), self.rows.lend()];
         let (mut ours, mut theirs) = (lend(), lend());
         let log = self.log.clone();
@@ -66,9 +66,9 @@ impl ReplayCase {
             }
         }
         for row in &rows {
-            tally.at(self.linear_width).rows[row.answer as usize] += 1;
+            reached.at(self.linear_width).rows[row.answer as usize] += 1;
         }
-        tally.replays += 1;
+        reached.replays += 1;
         Ok(())
     }
 

@@ -1,17 +1,21 @@
-//! Whole runs of the library, through two buffers each: one against the
-//! model's run and its book, and a second one with records taken out.
+//! Whole runs of the library, through two buffers each and with a tally: one
+//! against the model's run and its book, and a second one with records taken
+//! out.
 
-use crate::buffer::{Buffer, Lent};
+use crate::buffer::{same_counts, Buffer, Lent};
 use crate::case::parts;
+use crate::difference::{all_same, kinds_differences};
 use crate::expected;
 use crate::lookup::LookupCase;
+use crate::reached::Reached;
 use crate::step::same_step;
-use crate::tally::Tally;
 use crate::text::{address, buffer, bytes, numbers};
 use bridge::{FlatContext, FlatStep};
+use common::PCIDS;
 use generate::{removal, Rng};
 use model::book::Book;
-use model::{Address, Context};
+use model::mapping::records;
+use model::{Address, Context, LinearWidth, Tally};
 use std::fmt;
 
 /// The inputs of a run and of a second one beside it.
@@ -36,20 +40,23 @@ pub struct Moment {
     pub event: Option<Vec<u8>>,
 }
 
-/// One run: its context and the table in force, in one of two buffers.
+/// One run: its context, and the table in force, in one of two buffers, with its
+/// tally.
 struct Side {
     context: FlatContext,
+    tally: Tally,
     buffers: [Lent; 2],
     now: usize,
     length: usize,
 }
 
-type Stepper = fn(&FlatContext, &[u8], &[u8], &mut [u8]) -> FlatStep;
+type Stepper = fn(&FlatContext, &mut Tally, &[u8], &[u8], &mut [u8]) -> FlatStep;
 
 impl Side {
     fn new(case: &RunCase, buffers: &[Buffer]) -> Side {
         Side {
             context: bridge::flat(&case.start()),
+            tally: Tally::empty(),
             buffers: [buffers[0].lend(), buffers[1].lend()],
             now: 0,
             length: 0,
@@ -65,6 +72,7 @@ impl Side {
         let (old, new) = if self.now == 0 { (a, b) } else { (b, a) };
         let step = step(
             &self.context,
+            &mut self.tally,
             &old.part()[..self.length],
             event,
             new.part_mut(),
@@ -77,9 +85,21 @@ impl Side {
         step
     }
 
-    /// Takes records out of the table in force.
+    /// Takes records out of the table in force, and off its tally.
     fn take_out(&mut self, seed: u64) {
         let left = removal(&mut Rng::new(seed), self.table());
+        let mut rest = &left[..];
+        let mut taken = Vec::new();
+        let width = LinearWidth::of(self.context.linear_width);
+        for (place, mapping) in records(width, self.table()).unwrap_or_default() {
+            match rest.strip_prefix(&self.table()[place]) {
+                Some(after) => rest = after,
+                None => taken.push(mapping),
+            }
+        }
+        for mapping in &taken {
+            self.tally.take_off(mapping);
+        }
         self.buffers[self.now].part_mut()[..left.len()].copy_from_slice(&left);
         self.length = left.len();
     }
@@ -89,6 +109,8 @@ impl Side {
 struct Pair {
     ours: Side,
     theirs: Side,
+    /// Where the library's step without a tally writes.
+    plain: Vec<u8>,
 }
 
 impl Pair {
@@ -96,33 +118,78 @@ impl Pair {
         Pair {
             ours: Side::new(case, buffers),
             theirs: Side::new(case, buffers),
+            plain: Vec::new(),
         }
     }
 
     fn feed(&mut self, event: &[u8]) -> Result<FlatStep, String> {
+        let plain = self.plain_step(event);
         let got = self.ours.feed(event, bridge::step_flat);
         let due = self.theirs.feed(event, expected::step);
         same_step(&got, &due)?;
         for (nth, name) in [(0, "first buffer"), (1, "second buffer")] {
             self.ours.buffers[nth].same(&self.theirs.buffers[nth], name)?;
         }
+        same_step(&plain, &due).map_err(|why| format!("the plain step: {why}"))?;
+        if got.answer == 0 && self.plain[..got.length] != *self.ours.table() {
+            return Err("the plain step writes another table".to_string());
+        }
+        self.same_tally()?;
         Ok(got)
     }
 
-    fn take_out(&mut self, seed: u64) {
+    /// The library's step without a tally, on the same table.
+    fn plain_step(&mut self, event: &[u8]) -> FlatStep {
+        let ours = &self.ours;
+        let room = ours.buffers[1 - ours.now].part().len();
+        self.plain.resize(room, 0xA5);
+        bridge::plain_step_flat(&ours.context, ours.table(), event, &mut self.plain)
+    }
+
+    /// The tallies are the same, and fresh counts of the table in force by the
+    /// model and by the library.
+    fn same_tally(&self) -> Result<(), String> {
+        let (linear_width, table) = (self.ours.context.linear_width, self.ours.table());
+        let same = |got: &Tally, due: &Tally| {
+            all_same(kinds_differences(&got.kinds, &due.kinds))?;
+            same_counts(&got.pcids, &due.pcids)
+        };
+        same(&self.ours.tally, &self.theirs.tally)?;
+        let fresh = expected::count(linear_width, table, PCIDS);
+        if fresh
+            .as_ref()
+            .is_ok_and(|fresh| *fresh != self.theirs.tally)
+        {
+            return Err("the model's tally is no fresh count".to_string());
+        }
+        match (bridge::count(linear_width, table), fresh) {
+            (Ok(got), Ok(due)) => same(&got, &due).map_err(|why| format!("the fresh count: {why}")),
+            (Err(got), Err(due)) if got == due => Ok(()),
+            (got, due) => {
+                let answer = |counted: Result<Tally, u64>| counted.err().unwrap_or(0);
+                let (got, due) = (answer(got), answer(due));
+                Err(format!(
+                    "the fresh count is answered {got} and should be {due}"
+                ))
+            }
+        }
+    }
+
+    fn take_out(&mut self, seed: u64) -> Result<(), String> {
         self.ours.take_out(seed);
         self.theirs.take_out(seed);
+        self.same_tally()
     }
 
     /// The usable records by the library, which must be the model's.
-    fn usable(&self, address: Address, tally: &mut Tally) -> Result<Vec<&[u8]>, String> {
+    fn usable(&self, address: Address, reached: &mut Reached) -> Result<Vec<&[u8]>, String> {
         let table = self.ours.table();
         let case = LookupCase {
             context: self.ours.context,
             table: table.to_vec(),
             address,
         };
-        case.check(tally)?;
+        case.check(reached)?;
         let mut records = Vec::new();
         loop {
             let k = records.len() as u64;
@@ -140,7 +207,7 @@ impl RunCase {
         Context::after_reset(self.capability, self.width, self.linear_width)
     }
 
-    pub fn check(&self, tally: &mut Tally) -> Result<(), String> {
+    pub fn check(&self, reached: &mut Reached) -> Result<(), String> {
         let mut first = Pair::new(self, &self.buffers[..2]);
         let mut second = Pair::new(self, &self.buffers[2..]);
         let mut book = Book::new(&self.start());
@@ -150,16 +217,17 @@ impl RunCase {
         for (number, moment) in self.moments.iter().enumerate() {
             let at = |why: String| format!("at event {}: {why}", number + 1);
             if room {
-                in_order(&first, &second, moment, tally).map_err(at)?;
-                second.take_out(moment.removal);
-                in_order(&first, &second, moment, tally).map_err(at)?;
+                in_order(&first, &second, moment, reached).map_err(at)?;
+                second.take_out(moment.removal).map_err(at)?;
+                in_order(&first, &second, moment, reached).map_err(at)?;
             }
             let Some(event) = &moment.event else {
                 continue;
             };
             let step = first.feed(event).map_err(at)?;
-            let counts = tally.at(self.linear_width);
+            let counts = reached.at(self.linear_width);
             counts.run_steps[step.answer as usize] += 1;
+            counts.counts[0] += 1;
             counts.rules[step.rule as usize] += 1;
             if step.answer == 0 {
                 counts.accept(event, step.dropped);
@@ -175,7 +243,7 @@ impl RunCase {
                 }
             }
         }
-        tally.runs += 1;
+        reached.runs += 1;
         Ok(())
     }
 
@@ -193,11 +261,16 @@ impl RunCase {
 }
 
 /// The second run's usable records are an in-order part of the first's.
-fn in_order(first: &Pair, second: &Pair, moment: &Moment, tally: &mut Tally) -> Result<(), String> {
+fn in_order(
+    first: &Pair,
+    second: &Pair,
+    moment: &Moment,
+    reached: &mut Reached,
+) -> Result<(), String> {
     for wanted in &moment.addresses {
-        let all = first.usable(*wanted, tally)?;
+        let all = first.usable(*wanted, reached)?;
         let mut rest = all.iter();
-        for record in second.usable(*wanted, tally)? {
+        for record in second.usable(*wanted, reached)? {
             if !rest.any(|own| *own == record) {
                 let wanted = address(wanted);
                 return Err(format!("{wanted}: usable in the second run only"));

@@ -1,5 +1,6 @@
 //! Cases near the bounds, all of them for one context and table.
 
+use crate::count::CountCase;
 use crate::draw::{buffer, flat, ODD_NUMBERS};
 use crate::explain::ExplainCase;
 use crate::lookup::LookupCase;
@@ -8,14 +9,15 @@ use crate::step::StepCase;
 use crate::widen::WidenCase;
 use bridge::FlatContext;
 use common::{canonical, encode, is_mapping_kind, CAPABILITY_BITS, KINDS, PAGES};
-use common::{LINEAR_WIDTHS, PROGRAM_CAPABILITY, PROGRAM_WIDTH, ROW, TABLE_LIMIT};
-use generate::Rng;
+use common::{LINEAR_WIDTHS, PCIDS, PROGRAM_CAPABILITY, PROGRAM_WIDTH, ROW, TABLE_LIMIT};
+use generate::{near_tallies, Rng, SparseTally};
 use model::{Address, Context, LinearWidth, Place};
 
 fn step(rng: &mut Rng, context: FlatContext, table: &[u8], event: &[u8]) -> StepCase {
     let more = rng.below(64);
     StepCase {
         context,
+        tally: generate::tally(rng, table),
         table: table.to_vec(),
         event: event.to_vec(),
         new: buffer(rng, table.len() + event.len() + more),
@@ -158,13 +160,63 @@ pub fn rooms(rng: &mut Rng) -> Vec<StepCase> {
     ]);
     lengths.extend([TABLE_LIMIT - 1, TABLE_LIMIT, TABLE_LIMIT + 1]);
     lengths.extend([TABLE_LIMIT + 22, 2 * TABLE_LIMIT]);
+    let tally = SparseTally::of(&table);
     let with = |length| StepCase {
         context,
+        tally: tally.clone(),
         table: table.clone(),
         event: event.clone(),
         new: buffer(rng, length),
     };
     lengths.into_iter().map(with).collect()
+}
+
+/// Any step, with the tally that matches its table and every one near it.
+pub fn near_counts(rng: &mut Rng) -> Vec<StepCase> {
+    let case = generate::case(rng);
+    let context = flat(rng, &case.context);
+    let new = buffer(rng, case.new.len());
+    let with = |tally| StepCase {
+        context,
+        tally,
+        table: case.table.clone(),
+        event: case.event.clone(),
+        new,
+    };
+    let near = near_tallies(rng, &SparseTally::of(&case.table));
+    near.into_iter().map(with).collect()
+}
+
+/// Fresh counts of a table with every record one field away from a valid one of
+/// each kind, at either width, and of a table cut after each of its bytes.
+pub fn near_counted(rng: &mut Rng) -> Vec<CountCase> {
+    let context = generate::context(rng);
+    let count = rng.below(4);
+    let table = generate::table(rng, &context, count);
+    let tables = near_tables(rng, &context, &table);
+    let with = |table| CountCase {
+        linear_width: context.linear_width,
+        table,
+        pcids: buffer(rng, PCIDS),
+    };
+    tables.into_iter().map(with).collect()
+}
+
+/// Tables with a record one field away from a valid one of each kind, those of
+/// the other linear width too, first or last, and one cut after each byte.
+fn near_tables(rng: &mut Rng, context: &Context, table: &[u8]) -> Vec<Vec<u8>> {
+    let mut tables = Vec::new();
+    for kind in KINDS.into_iter().filter(|kind| is_mapping_kind(*kind)) {
+        let record = generate::event_of_kind(rng, context, kind);
+        for near in generate::near_events(&record) {
+            tables.push([&near, table].concat());
+            tables.push([table, &near].concat());
+        }
+    }
+    for cut in 0..=table.len() {
+        tables.push(table[..cut].to_vec());
+    }
+    tables
 }
 
 /// Addresses one byte inside and outside of each end of each record.
@@ -352,17 +404,7 @@ pub fn near_widenings(rng: &mut Rng) -> Vec<WidenCase> {
     let context = narrow(rng);
     let count = rng.below(4);
     let table = generate::table(rng, &context, count);
-    let mut tables = Vec::new();
-    for kind in KINDS.into_iter().filter(|kind| is_mapping_kind(*kind)) {
-        let record = generate::event_of_kind(rng, &context, kind);
-        for near in generate::near_events(&record) {
-            tables.push([&near, &table[..]].concat());
-            tables.push([&table[..], &near].concat());
-        }
-    }
-    for cut in 0..=table.len() {
-        tables.push(table[..cut].to_vec());
-    }
+    let tables = near_tables(rng, &context, &table);
     let with = |table: Vec<u8>| {
         let more = rng.below(20);
         let new = buffer(rng, generate::result_length(&table) + more);

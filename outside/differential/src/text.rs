@@ -5,6 +5,7 @@
 use crate::buffer::Buffer;
 use bridge::FlatContext;
 use common::hex;
+use generate::SparseTally;
 use model::Address;
 
 /// A line of bytes.
@@ -37,6 +38,23 @@ pub fn context(c: &FlatContext) -> String {
 /// A buffer as a line.
 pub fn buffer(name: &str, buffer: &Buffer) -> String {
     numbers(name, &[buffer.length as u64, buffer.fill])
+}
+
+/// A tally as two lines: its thirty counts of kinds and spans; then the length
+/// of its list of PCIDs, and each count in it that is not 0, its PCID first.
+pub fn tally(tally: &SparseTally) -> String {
+    let kinds: Vec<u64> = tally
+        .kinds
+        .iter()
+        .flatten()
+        .copied()
+        .map(u64::from)
+        .collect();
+    let mut pcids = vec![tally.length as u64];
+    for (pcid, count) in &tally.pcids {
+        pcids.extend([*pcid as u64, u64::from(*count)]);
+    }
+    format!("{}\n{}", numbers("kinds", &kinds), numbers("pcids", &pcids))
 }
 
 /// An address as a line.

@@ -3,7 +3,7 @@
 use crate::buffer::Buffer;
 use crate::case::smaller_tables;
 use crate::difference::{all_same, difference};
-use crate::tally::Tally;
+use crate::reached::Reached;
 use crate::text::{buffer, bytes};
 use std::fmt;
 
@@ -15,7 +15,7 @@ pub struct WidenCase {
 }
 
 impl WidenCase {
-    pub fn check(&self, tally: &mut Tally) -> Result<(), String> {
+    pub fn check(&self, reached: &mut Reached) -> Result<(), String> {
         let mut ours = self.new.lend();
         let mut theirs = self.new.lend();
         // The library gets a copy, so that a write to it shows.
@@ -31,7 +31,7 @@ impl WidenCase {
         if table != self.table {
             return Err("the table was written to".to_string());
         }
-        tally.widened[due.answer as usize] += 1;
+        reached.widened[due.answer as usize] += 1;
         Ok(())
     }
 

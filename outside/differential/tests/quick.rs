@@ -3,21 +3,21 @@
 use differential::explain::ExplainCase;
 use differential::step::StepCase;
 use differential::work::{self, Work};
-use differential::{draw, sweep, Case, Failure, Tally};
+use differential::{draw, sweep, Case, Failure, Reached};
 use generate::{kinds, Rng};
 
 const SEED: u64 = 20_260_101;
 
 /// Does some work so many times.
-fn compare(times: u64, work: Work) -> Tally {
+fn compare(times: u64, work: Work) -> Reached {
     println!("seed {SEED}");
-    let mut tally = Tally::default();
+    let mut reached = Reached::default();
     for number in 0..times {
         let mut rng = Rng::new(SEED + number);
-        passed(work(&mut rng, &mut tally));
+        passed(work(&mut rng, &mut reached));
     }
-    println!("{tally}");
-    tally
+    println!("{reached}");
+    reached
 }
 
 fn passed(result: Result<(), Failure>) {
@@ -28,25 +28,29 @@ fn passed(result: Result<(), Failure>) {
 }
 
 /// Compares the cases of a sweep over steps, drawn so many times.
-fn sweep_steps(times: usize, sweep: fn(&mut Rng) -> Vec<StepCase>) -> Tally {
+fn sweep_steps(times: usize, sweep: fn(&mut Rng) -> Vec<StepCase>) -> Reached {
     println!("seed {SEED}");
     let mut rng = Rng::new(SEED);
-    let mut tally = Tally::default();
+    let mut reached = Reached::default();
     for _ in 0..times {
         for case in sweep(&mut rng) {
-            passed(Case::Step(case).compare(&mut tally));
+            passed(Case::Step(case).compare(&mut reached));
         }
     }
-    println!("{tally}");
-    tally
+    println!("{reached}");
+    reached
 }
 
 #[test]
 fn steps_of_every_answer() {
-    let tally = compare(300, work::steps);
-    for (width, counts) in tally.both() {
+    let reached = compare(480, work::steps);
+    for (width, counts) in reached.both() {
         assert!(counts.steps.iter().all(|count| *count > 1_000));
+        assert!(counts.counted.iter().all(|count| *count > 800));
         assert!(counts.rules.iter().all(|count| *count > 200));
+        for (answer, count) in counts.instead.iter().enumerate() {
+            assert_eq!(*count > 100, !(1..=4).contains(&answer), "answer {answer}");
+        }
         assert!(counts.dropping > 1_000);
         for kind in kinds(width) {
             assert!(counts.accepted[usize::from(kind)] > 100, "kind {kind}");
@@ -56,8 +60,8 @@ fn steps_of_every_answer() {
 
 #[test]
 fn every_event_near_a_bound() {
-    let tally = sweep_steps(20, sweep::near_events);
-    for (_, counts) in tally.both() {
+    let reached = sweep_steps(14, sweep::near_events);
+    for (_, counts) in reached.both() {
         for answer in [0, 3, 4] {
             assert!(counts.steps[answer] > 1_000, "answer {answer}");
         }
@@ -66,16 +70,16 @@ fn every_event_near_a_bound() {
 
 #[test]
 fn every_context_near_a_bound() {
-    let tally = sweep_steps(20, sweep::near_contexts);
-    for (_, counts) in tally.both() {
+    let reached = sweep_steps(14, sweep::near_contexts);
+    for (_, counts) in reached.both() {
         assert!(counts.steps[0] > 1_000 && counts.steps[1] > 1_000);
     }
 }
 
 #[test]
 fn every_kind_in_every_place() {
-    let tally = sweep_steps(16, sweep::matrix);
-    for (_, counts) in tally.both() {
+    let reached = sweep_steps(10, sweep::matrix);
+    for (_, counts) in reached.both() {
         for answer in [0, 4, 5, 6, 7, 8, 9, 10, 11] {
             assert!(counts.steps[answer] > 50, "answer {answer}");
         }
@@ -84,24 +88,41 @@ fn every_kind_in_every_place() {
 
 #[test]
 fn new_buffers_of_every_length() {
-    let tally = sweep_steps(400, sweep::rooms);
-    for (_, counts) in tally.both() {
+    let reached = sweep_steps(300, sweep::rooms);
+    for (_, counts) in reached.both() {
         assert!(counts.steps[0] > 1_000 && counts.steps[12] > 1_000);
+    }
+}
+
+/// Each count wrong in turn, lists of another length, and fresh counts.
+#[test]
+fn tallies_wrong_in_every_way() {
+    let reached = compare(160, work::tallies);
+    let both = reached.both();
+    for (_, counts) in both {
+        assert!(counts.counted[13] > 5_000 && counts.counted[0] > 100);
+        for answer in [0, 2, 3, 13] {
+            assert!(counts.counts[answer] > 50, "answer {answer}");
+        }
+    }
+    for answer in [0, 5, 6, 7, 8, 9, 10, 11, 12] {
+        let instead: u64 = both.map(|(_, counts)| counts.instead[answer]).iter().sum();
+        assert!(instead > 500, "answer {answer}");
     }
 }
 
 #[test]
 fn addresses_at_the_ends_of_records() {
-    let tally = sweep_steps(300, sweep::edge_events);
-    for (_, counts) in tally.both() {
+    let reached = sweep_steps(300, sweep::edge_events);
+    for (_, counts) in reached.both() {
         assert!(counts.steps[0] > 1_000 && counts.dropping > 1_000);
     }
 }
 
 #[test]
 fn lookups_for_all_k() {
-    let tally = compare(200, work::lookups);
-    for (_, counts) in tally.both() {
+    let reached = compare(200, work::lookups);
+    for (_, counts) in reached.both() {
         assert!(counts.lookups.iter().all(|count| *count > 300));
         assert!(counts.found > 5_000);
     }
@@ -109,8 +130,8 @@ fn lookups_for_all_k() {
 
 #[test]
 fn explanations_of_every_reason() {
-    let tally = compare(100, work::explains);
-    for (_, counts) in tally.both() {
+    let reached = compare(100, work::explains);
+    for (_, counts) in reached.both() {
         assert!(counts.reasons[1..].iter().all(|count| *count > 500));
         assert!(counts.reason_rules.iter().all(|count| *count > 50));
         for (answer, count) in counts.refusals.iter().enumerate() {
@@ -127,31 +148,33 @@ fn explanations_of_every_reason() {
 #[test]
 fn explanations_of_whole_tables() {
     let mut rng = Rng::new(SEED);
-    let mut tally = Tally::default();
+    let mut reached = Reached::default();
     for _ in 0..20_000 {
         let case = ExplainCase::from(draw::step(&mut rng));
-        passed(Case::Explain(case).compare(&mut tally));
+        passed(Case::Explain(case).compare(&mut reached));
     }
     // Most tables are not one record.
-    for (_, counts) in tally.both() {
+    for (_, counts) in reached.both() {
         assert!(counts.refusals[3] > 5_000 && counts.reasons[10] > 50);
     }
 }
 
 #[test]
 fn long_runs_by_the_book() {
-    let tally = compare(60, work::runs);
-    assert_eq!(tally.runs, 60);
-    for (_, counts) in tally.both() {
+    let reached = compare(60, work::runs);
+    assert_eq!(reached.runs, 60);
+    for (_, counts) in reached.both() {
         assert!(counts.dropped > 1_000);
+        assert_eq!(counts.run_steps[13], 0);
+        assert_eq!(counts.counts[0], counts.run_steps.iter().sum::<u64>());
     }
 }
 
 #[test]
 fn replays_of_logs() {
-    let tally = compare(60, work::replays);
-    assert!(tally.replays > 2_000);
-    for (_, counts) in tally.both() {
+    let reached = compare(60, work::replays);
+    assert!(reached.replays > 2_000);
+    for (_, counts) in reached.both() {
         assert!(counts.rows[0] > 5_000);
     }
 }
@@ -159,11 +182,11 @@ fn replays_of_logs() {
 #[test]
 fn runs_that_fill_the_table() {
     let mut rng = Rng::new(SEED);
-    let mut tally = Tally::default();
+    let mut reached = Reached::default();
     for _ in 0..4 {
-        passed(Case::Run(draw::filling_run(&mut rng)).compare(&mut tally));
+        passed(Case::Run(draw::filling_run(&mut rng)).compare(&mut reached));
     }
-    for (_, counts) in tally.both() {
+    for (_, counts) in reached.both() {
         assert!(counts.run_steps[12] > 0);
     }
 }
@@ -171,19 +194,19 @@ fn runs_that_fill_the_table() {
 #[test]
 fn replays_that_fill_the_table() {
     let mut rng = Rng::new(SEED);
-    let mut tally = Tally::default();
+    let mut reached = Reached::default();
     for _ in 0..4 {
-        passed(Case::Replay(draw::filling_replay(&mut rng)).compare(&mut tally));
+        passed(Case::Replay(draw::filling_replay(&mut rng)).compare(&mut reached));
     }
-    for (_, counts) in tally.both() {
+    for (_, counts) in reached.both() {
         assert!(counts.rows[12] > 0);
     }
 }
 
 #[test]
 fn conversions_of_every_answer() {
-    let tally = compare(60, work::widenings);
+    let reached = compare(60, work::widenings);
     for answer in [0, 2, 3, 12] {
-        assert!(tally.widened[answer] > 50, "answer {answer}");
+        assert!(reached.widened[answer] > 50, "answer {answer}");
     }
 }

@@ -1,7 +1,7 @@
 //! A printed case is read back, and the program compares it again.
 
-use differential::{draw, parse, Case};
-use generate::Rng;
+use differential::{draw, parse, sweep, Case};
+use generate::{Rng, SparseTally};
 use std::io::Write;
 use std::process::{Command, Output, Stdio};
 
@@ -10,6 +10,7 @@ fn cases() -> Vec<Case> {
     let mut cases = Vec::new();
     for _ in 0..50 {
         cases.push(Case::Step(draw::step(&mut rng)));
+        cases.push(Case::Count(draw::count(&mut rng)));
         cases.push(Case::Lookup(draw::lookup(&mut rng)));
         cases.push(Case::Explain(draw::explain(&mut rng)));
         cases.push(Case::Run(draw::run(&mut rng, 30)));
@@ -25,6 +26,49 @@ fn there_and_back() {
         let text = format!("seed 1\n\n{case}\n\nDIFFERENT: this and that\n");
         assert_eq!(parse(&text), Ok(case));
     }
+}
+
+/// Tallies wrong in every way, and one with every count as large as can be.
+#[test]
+fn wrong_tallies_there_and_back() {
+    let mut rng = Rng::new(6);
+    let mut cases = sweep::near_counts(&mut rng);
+    let mut largest = cases[0].clone();
+    largest.tally = SparseTally {
+        kinds: [[u16::MAX; 5]; 6],
+        length: 5_000,
+        pcids: (0..5_000).map(|pcid| (pcid, u16::MAX)).collect(),
+    };
+    cases.push(largest);
+    assert!(cases.len() > 150);
+    for case in cases.into_iter().map(Case::Step) {
+        assert_eq!(parse(&case.to_string()), Ok(case));
+    }
+}
+
+#[test]
+fn damaged_tallies_are_errors() {
+    let case = draw::step(&mut Rng::new(7));
+    let text = case.to_string();
+    let line = |name: &str| {
+        let lines = text.lines().filter(|line| line.starts_with(name));
+        lines.map(str::to_string).next().expect("a line")
+    };
+    let (kinds, pcids) = (line("kinds "), line("pcids "));
+    for (old, new) in [
+        (&kinds, format!("{kinds} 0x0")),
+        (&kinds, kinds.replacen(" 0x", " 0x10000", 1)),
+        (&kinds, "kinds 0x0".to_string()),
+        (&pcids, "pcids".to_string()),
+        (&pcids, "pcids 0x1000 0x1".to_string()),
+        (&pcids, "pcids 0x1000 0x1000 0x1".to_string()),
+        (&pcids, "pcids 0x1000 0x1 0x10000".to_string()),
+        (&pcids, "pcids 0x200000000".to_string()),
+    ] {
+        assert!(parse(&text.replace(old, &new)).is_err(), "{new}");
+    }
+    let empty = text.replace(&pcids, "pcids 0x1000");
+    assert!(parse(&empty).is_ok());
 }
 
 #[test]
@@ -56,7 +100,7 @@ fn fuzz(words: &[&str], input: &str) -> Output {
 
 #[test]
 fn the_program_compares_a_case_again() {
-    for case in cases().iter().take(12) {
+    for case in cases().iter().take(14) {
         let output = fuzz(&["--case", "-"], &case.to_string());
         assert_eq!(output.status.code(), Some(0));
         assert_eq!(output.stdout, b"no difference\n");

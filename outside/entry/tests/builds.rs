@@ -113,6 +113,7 @@ fn tools_that_are_missing() {
         ("replay three.log", "rt"),
         ("library", "rt"),
         ("disassemble three.log", "cargo"),
+        ("tally three.log", "rt"),
         ("widen a.table", "rt"),
         ("test", "rt"),
     ] {

@@ -96,7 +96,14 @@ fn a_closed_pipe() {
 fn closed_descriptors() {
     let checkout = Checkout::built();
     let closed = "skuldrefn: standard input is closed\n";
-    for command in ["replay", "replay -", "assemble", "disassemble", "widen"] {
+    for command in [
+        "replay",
+        "replay -",
+        "assemble",
+        "disassemble",
+        "tally",
+        "widen",
+    ] {
         let run = checkout.sh(&format!("./skuldrefn {command} <&-"));
         assert_eq!((run.status, &run.said[..]), (2, closed), "{command}");
         assert!(run.out.is_empty());
@@ -108,6 +115,7 @@ fn closed_descriptors() {
         "replay three.log",
         "disassemble three.log",
         "assemble",
+        "tally three.log",
         "widen a.table",
         "help",
         "library",
@@ -156,6 +164,8 @@ fn the_other_programs() {
         "mutants 1 1",
         "bench",
         "disassemble three.log",
+        "tally three.log",
+        "tally --every 1 three.log",
         "widen a.table",
         "help",
         "help bench",

@@ -2,10 +2,11 @@
 
 use entry::{Checkout, THREE};
 
-const COMMANDS: [&str; 9] = [
+const COMMANDS: [&str; 10] = [
     "replay",
     "assemble",
     "disassemble",
+    "tally",
     "widen",
     "library",
     "test",
@@ -40,6 +41,26 @@ fn words_that_are_not_taken() {
         "disassemble --linear-width 57 --linear-width 57",
         "disassemble three.log --linear-width 57",
         "assemble --linear-width 57",
+        "tally nofile.log",
+        "tally --all",
+        "tally --linear-width 56",
+        "tally --linear-width three.log",
+        "tally --linear-width 57 --linear-width 57",
+        "tally --every",
+        "tally --every 0",
+        "tally --every -1",
+        "tally --every 1000000000",
+        "tally --every many three.log",
+        "tally --every three.log",
+        "tally --every 1 --every 1",
+        "tally --every 1 --linear-width",
+        "tally three.log --every 1",
+        "tally three.log three.log",
+        "tally --every 1 --help three.log",
+        "tally --every --help",
+        "tally three.log --help",
+        "tally --every 1 /",
+        "tally ''",
         "widen nofile.table",
         "widen --linear-width 57",
         "widen a.table a.table",
@@ -92,6 +113,101 @@ fn help() {
         }
     }
     assert!(checkout.calls().is_empty());
+}
+
+#[test]
+fn options_after_the_file() {
+    let checkout = Checkout::bare();
+    for (words, due) in [
+        ("tally three.log --every 1", "options go before the file"),
+        ("tally - --linear-width 57", "options go before the file"),
+        (
+            "tally --every 1 three.log --linear-width 57",
+            "options go before the file",
+        ),
+        (
+            "disassemble three.log --linear-width 57",
+            "options go before the file",
+        ),
+        (
+            "disassemble three.log --every 1",
+            "disassemble takes one file; '--every' is one too many",
+        ),
+    ] {
+        let run = checkout.sh(&format!("./skuldrefn {words}"));
+        let command = words.split(' ').next().expect("a command");
+        let due = format!("skuldrefn: {due}; './skuldrefn help {command}' says more\n");
+        assert_eq!((run.status, run.said), (2, due), "{words}");
+    }
+}
+
+#[test]
+fn help_after_options() {
+    let checkout = Checkout::bare();
+    for (command, options) in [
+        ("tally", "--every 1"),
+        ("tally", "--linear-width 57 --every 1"),
+        ("disassemble", "--linear-width 57"),
+    ] {
+        let due = checkout.sh(&format!("./skuldrefn help {command}"));
+        for word in ["-h", "--help"] {
+            let run = checkout.sh(&format!("./skuldrefn {command} {options} {word}"));
+            assert_eq!((run.status, &run.out), (0, &due.out), "{options}");
+            assert_eq!(run.said, "");
+        }
+    }
+    assert!(checkout.calls().is_empty());
+}
+
+#[test]
+fn help_of_replay() {
+    let own = Checkout::bare().sh("./skuldrefn help replay").out;
+    let own = own.replace('\n', " ");
+    for due in [
+        "or reading fails midway, or a line cannot be written.",
+        "It is 2 where the log is not there, is a folder or may not be read.",
+    ] {
+        assert!(own.contains(due), "{own}");
+    }
+}
+
+/// What the help of replay says of logs that cannot be read.
+#[test]
+fn logs_that_cannot_be_read() {
+    let checkout = Checkout::built();
+    assert_eq!(checkout.sh("./skuldrefn tally three.log").status, 0);
+    for (words, status) in [("nofile.log", 2), ("/", 2), ("< /", 1), ("- < /", 1)] {
+        for command in ["replay", "tally"] {
+            let run = checkout.sh(&format!("./skuldrefn {command} {words}"));
+            assert_eq!(
+                (run.status, &run.out[..]),
+                (status, ""),
+                "{command} {words}"
+            );
+            assert!(!run.said.is_empty(), "{command} {words}");
+        }
+    }
+}
+
+#[test]
+fn help_of_tally() {
+    let checkout = Checkout::bare();
+    let whole = checkout.sh("./skuldrefn help").out;
+    let (_, after) = whole.split_once("\n  tally [FILE] ").expect("a line");
+    let (line, _) = after.split_once("\n  widen ").expect("a line");
+    assert!(line.contains("--linear-width 57 before FILE"), "{line}");
+    assert!(line.contains("--every N"), "{line}");
+    let own = checkout.sh("./skuldrefn help tally").out;
+    let own = own.replace('\n', " ");
+    for due in [
+        "FILE is a log, not a stored table.",
+        "It starts as replay does: from a reset, with N = 52 and the same capability, \
+         and takes at most 65,536 bytes.",
+        "The status is 1 where the log is too long, ends at a cut record or an unknown kind, \
+         or reading or writing fails.",
+    ] {
+        assert!(own.contains(due), "{own}");
+    }
 }
 
 #[test]

@@ -5,16 +5,18 @@ use crate::context::near_context;
 use crate::damage::spoiled;
 use crate::pool;
 use crate::table::{any_table, full_table, long_table, page_of_some, spoil_table, table};
+use crate::tally::{tally, SparseTally};
 use crate::Rng;
 use common::{hex, length, set_field, PAGES, TABLE_LIMIT};
 use model::Context;
 use std::fmt;
 
-/// The inputs of one step. `new` is the new buffer before it, full of random
+/// The inputs of one step, counted or plain. `new` is the new buffer before it, full of random
 /// bytes, so that a byte written too many shows.
 #[derive(Clone, Debug)]
 pub struct Case {
     pub context: Context,
+    pub tally: SparseTally,
     pub table: Vec<u8>,
     pub event: Vec<u8>,
     pub new: Vec<u8>,
@@ -23,6 +25,7 @@ pub struct Case {
 impl fmt::Display for Case {
     fn fmt(&self, f: &mut fmt::Formatter) -> fmt::Result {
         writeln!(f, "context: {:x?}", self.context)?;
+        writeln!(f, "tally: {}", self.tally)?;
         writeln!(f, "table ({}): {}", self.table.len(), hex(&self.table))?;
         writeln!(f, "event ({}): {}", self.event.len(), hex(&self.event))?;
         write!(f, "new buffer: {} bytes", self.new.len())
@@ -36,7 +39,7 @@ enum Room {
 }
 
 /// The inputs of one step, aimed at one of the answers 0 to 12; some carry a
-/// second defect.
+/// second defect, and one tally in six is wrong.
 pub fn case(rng: &mut Rng) -> Case {
     let aim = rng.below(18);
     let (mut context, mut event) = aimed(rng, aim);
@@ -73,11 +76,13 @@ pub fn case(rng: &mut Rng) -> Case {
         }
     }
     let length = room_length(rng, room, table.len(), event.len());
+    let new = rng.bytes(length);
     Case {
         context,
+        tally: tally(rng, &table),
         table,
         event,
-        new: rng.bytes(length),
+        new,
     }
 }
 

@@ -3,17 +3,19 @@
 //! The same seed gives the same inputs on every machine. Tags, pages and
 //! EP4TAs come from small pools, so that they collide often; most draws aim
 //! at one of the answers 0 to 12, and some carry a second defect, so that the
-//! order of the answers is tried too. Contexts have either linear width, and
-//! records, addresses and logs are mostly of that width.
+//! order of the answers is tried too. One tally in six is wrong, for answer 13.
+//! Contexts have either linear width, and records, addresses and logs are mostly
+//! of that width.
 //!
-//! Bytes are put together by the layouts in `common`. The model lends the
-//! plain types of a context and an address, and no rule.
+//! Bytes are put together, and counted, by the layouts in `common`. The model
+//! lends the plain types of a context, an address and a tally, and no rule.
 //!
 //! * [`Rng`]: the generator of numbers.
 //! * [`case`], [`query`], [`explain`], [`widening`]: inputs of one step, of one
 //!   lookup, of one explanation and of one conversion.
 //! * [`start`], [`events`], [`log`], [`filling_log`]: whole runs and logs.
 //! * [`context`], [`table`], [`event`], [`address`] and so on: the parts.
+//! * [`tally()`], [`near_tallies`]: the tallies to hand in with a table.
 //! * [`near_contexts`], [`near_events`]: every input that differs from a given
 //!   one in one field, by one or at a bound.
 
@@ -31,6 +33,7 @@ mod record;
 mod rng;
 mod run;
 mod table;
+mod tally;
 mod widening;
 
 pub use bounds::near_events;
@@ -46,4 +49,5 @@ pub use record::other_width;
 pub use rng::Rng;
 pub use run::{events, filling_log, log, start};
 pub use table::{any_table, full_table, removal, table};
+pub use tally::{near_tallies, tally, wrong_tally, SparseTally};
 pub use widening::{result_length, table_of_result, widening, Widening};

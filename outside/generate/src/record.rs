@@ -78,7 +78,7 @@ pub fn tagged(rng: &mut Rng, kind: u8, tags: &Tags) -> Vec<u8> {
 }
 
 /// Which field of a record is its span, from 0. The page follows it.
-fn span_field(kind: u8) -> usize {
+pub fn span_field(kind: u8) -> usize {
     match kind {
         1 | 3 | 7 | 8 => 3,
         2 | 5 => 1,

@@ -1,13 +1,14 @@
-//! The generator reaches every answer, reason and EPTP rule often, at both
-//! linear widths, and gives the same each time.
+//! The generator reaches every answer, reason and EPTP rule and every wrong
+//! tally often, at both linear widths, and gives the same each time.
 
-use common::{canonical, field, is_mapping_kind, kinds, sizes, KINDS, LINEAR_WIDTHS, LOG_LIMIT};
-use generate::{case, events, explain, filling_log, log, near_events, other_width, query, Rng};
-use generate::{table_of_result, widening, BAD_LINEAR_WIDTHS};
+use common::{canonical, field, is_mapping_kind, kinds, sizes};
+use common::{KINDS, LINEAR_WIDTHS, LOG_LIMIT, PCIDS};
+use generate::{case, events, explain, filling_log, log, near_events, near_tallies, other_width};
+use generate::{query, table_of_result, widening, Rng, SparseTally, BAD_LINEAR_WIDTHS};
 use model::event::Event;
 use model::mapping::{records, Mapping};
 use model::LinearWidth::{self, Bits48, Bits57};
-use model::{lookup, step, widen, TABLE_LIMIT};
+use model::{count, counted_step, lookup, step, widen, Tally, TABLE_LIMIT};
 
 const SEED: u64 = 7;
 
@@ -59,6 +60,176 @@ fn every_answer_is_reached() {
         assert!(reached.dropping >= 500);
         for answer in [8, 10] {
             assert!(reached.rules[answer].iter().all(|count| *count >= 20));
+        }
+    }
+}
+
+/// How a tally differs from the one that matches.
+#[derive(Debug, Default)]
+struct Wrong {
+    /// Answers 1 to 4 with a wrong tally, and what would be answered with a
+    /// right one where 13 is.
+    instead: [usize; 13],
+    /// Tallies of which one count of a kind and span is one too many, one too
+    /// few (or as large as can be, for 0) or 65,535.
+    cells: [[[usize; 3]; 5]; 6],
+    /// The same for PCIDs: the first, the last, one that is counted and another.
+    pcids: [[usize; 3]; 4],
+    moved: usize,
+    rows_swapped: usize,
+    /// Lists of 0, of 4,095 and of 4,097 counts, and of another length.
+    lengths: [usize; 4],
+}
+
+impl Wrong {
+    /// Whether a count is one too many, one too few, and as large as can be.
+    fn ways(got: u16, due: u16) -> [bool; 3] {
+        [
+            got == due.wrapping_add(1),
+            got == due.wrapping_sub(1),
+            got == u16::MAX,
+        ]
+    }
+
+    fn note(&mut self, got: &Tally, due: &Tally) {
+        match got.pcids.len() {
+            PCIDS => {}
+            0 => self.lengths[0] += 1,
+            4_095 => self.lengths[1] += 1,
+            4_097 => self.lengths[2] += 1,
+            _ => self.lengths[3] += 1,
+        }
+        if got.pcids.len() != PCIDS {
+            return;
+        }
+        let cells = || (0..6).flat_map(|row| (0..5).map(move |span| (row, span)));
+        let wrong_cells: Vec<(usize, usize)> = cells()
+            .filter(|(row, span)| got.kinds[*row][*span] != due.kinds[*row][*span])
+            .collect();
+        let wrong_pcids: Vec<usize> = (0..PCIDS)
+            .filter(|pcid| got.pcids[*pcid] != due.pcids[*pcid])
+            .collect();
+        match (&wrong_cells[..], &wrong_pcids[..]) {
+            ([(row, span)], []) => {
+                let ways = Wrong::ways(got.kinds[*row][*span], due.kinds[*row][*span]);
+                for (count, way) in self.cells[*row][*span].iter_mut().zip(ways) {
+                    *count += usize::from(way);
+                }
+            }
+            ([], [pcid]) => {
+                let place = match pcid {
+                    0 => 0,
+                    4_095 => 1,
+                    _ if due.pcids[*pcid] > 0 => 2,
+                    _ => 3,
+                };
+                let ways = Wrong::ways(got.pcids[*pcid], due.pcids[*pcid]);
+                for (count, way) in self.pcids[place].iter_mut().zip(ways) {
+                    *count += usize::from(way);
+                }
+            }
+            ([], [one, other]) => {
+                let [more, less] = [one, other].map(|pcid| {
+                    let [more, less, _] = Wrong::ways(got.pcids[*pcid], due.pcids[*pcid]);
+                    usize::from(more) + 2 * usize::from(less)
+                });
+                self.moved += usize::from(more + less == 3);
+            }
+            (_, []) => {
+                let changed = |row: &usize| got.kinds[*row] != due.kinds[*row];
+                let rows: Vec<usize> = (0..6).filter(changed).collect();
+                if let [one, other] = rows[..] {
+                    let mut back = got.kinds;
+                    back.swap(one, other);
+                    self.rows_swapped += usize::from(back == due.kinds);
+                }
+            }
+            _ => {}
+        }
+    }
+}
+
+/// Answer 13 where every other one but 1 to 4 would be given, those four with a
+/// wrong tally, and wrong tallies of every sort.
+#[test]
+fn every_wrong_tally_is_reached() {
+    println!("seed {SEED}");
+    let mut rng = Rng::new(SEED);
+    let mut both = [Wrong::default(), Wrong::default()];
+    let mut matching = 0;
+    for _ in 0..60_000 {
+        let mut case = case(&mut rng);
+        let width = LinearWidth::of(case.context.linear_width);
+        let due = count(width, &case.table).unwrap_or(Tally::empty());
+        let tally = case.tally.tally();
+        let plain = step(&case.context, &case.table, &case.event, &mut case.new).answer;
+        if tally == due {
+            matching += 1;
+            continue;
+        }
+        let mut after = tally.clone();
+        let step = counted_step(
+            &case.context,
+            &mut after,
+            &case.table,
+            &case.event,
+            &mut case.new,
+        );
+        let first_four = (1..=4).contains(&plain);
+        assert_eq!(step.answer, if first_four { plain } else { 13 });
+        let Some(place) = place(case.context.linear_width) else {
+            continue;
+        };
+        both[place].instead[plain as usize] += 1;
+        if !first_four {
+            both[place].note(&tally, &due);
+        }
+    }
+    println!("matching: {matching}");
+    assert!((42_000..54_000).contains(&matching));
+    for (width, wrong) in LINEAR_WIDTHS.iter().zip(both) {
+        println!("{width} bits: {wrong:?}");
+        assert!(wrong.instead.iter().all(|count| *count >= 50));
+        assert!(wrong.cells.as_flattened().iter().all(|ways| ways[0] >= 3));
+        assert!(wrong.cells.as_flattened().iter().all(|ways| ways[1] >= 3));
+        assert!(wrong.cells.as_flattened().iter().all(|ways| ways[2] >= 3));
+        assert!(wrong.pcids.iter().flatten().all(|count| *count >= 10));
+        assert!(wrong.moved >= 100 && wrong.rows_swapped >= 100);
+        assert!(wrong.lengths.iter().all(|count| *count >= 30));
+    }
+}
+
+/// The tally drawn for a valid table is the model's fresh count, unless it is
+/// one of the wrong ones; and of those near it, few match.
+#[test]
+fn tallies_by_the_layouts() {
+    let mut rng = Rng::new(SEED);
+    for number in 0..300 {
+        let context = generate::context(&mut rng);
+        let length = if number % 100 == 0 {
+            TABLE_LIMIT
+        } else {
+            300 + number
+        };
+        let table = generate::full_table(&mut rng, &context, length);
+        let width = LinearWidth::of(context.linear_width);
+        let right = SparseTally::of(&table);
+        let due = count(width, &table).expect("a valid table");
+        assert_eq!(right.tally(), due);
+        let near = near_tallies(&mut rng, &right);
+        assert_eq!(near[0], right);
+        let wrong = near.iter().filter(|near| near.tally() != due).count();
+        assert!(wrong >= 130 && wrong + 30 > near.len(), "{wrong}");
+        // Each cell in three ways, of which two are the same for one that is 0.
+        for row in 0..6 {
+            for span in 0..5 {
+                let alone = |near: &&SparseTally| {
+                    let mut back = (*near).clone();
+                    back.kinds[row][span] = right.kinds[row][span];
+                    **near != right && back == right
+                };
+                assert!(near.iter().filter(alone).count() >= 3);
+            }
         }
     }
 }

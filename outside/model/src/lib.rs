@@ -13,9 +13,10 @@
 //! * [`scope`]: the required scopes.
 //! * [`reason`]: why a mapping went or stayed (Ask 1).
 //! * [`step()`], [`lookup()`], [`replay()`]: what the model does.
+//! * [`tally`]: the tally beside the table (Ask 7).
 //! * [`widen()`]: a stored 48-bit table at 57 bits (Ask 12).
 //! * [`book`]: a whole run judged from its events alone.
-//! * [`tuned`]: the same step and converter, written for speed.
+//! * [`tuned`]: the same steps and converter, written for speed.
 
 pub mod address;
 pub mod book;
@@ -29,6 +30,7 @@ pub mod reason;
 pub mod replay;
 pub mod scope;
 pub mod step;
+pub mod tally;
 pub mod tuned;
 pub mod widen;
 
@@ -38,6 +40,7 @@ pub use lookup::{lookup, usable, Address};
 pub use reason::{explain, Reason};
 pub use replay::{print, replay, Line};
 pub use step::{step, Step};
+pub use tally::{count, counted_step, Kinds, Tally, PCIDS};
 pub use widen::{widen, Widened};
 
 /// The longest table, in bytes, at either linear width (Ask 12).

@@ -39,7 +39,7 @@ pub fn step(context: &Context, table: &[u8], event: &[u8], new: &mut [u8]) -> St
     let answer = answer(context, table, event, new.len());
     let width = context.linear();
     let decoded = Event::decode(width, event);
-    let (0, Some(records), Some(decoded)) = (answer, records(width, table), decoded) else {
+    let (0, Some(decoded)) = (answer, decoded) else {
         return Step {
             rule: decoded.map_or(0, |event| rule(context, &event, answer)),
             ..Step::refused(answer, context)
@@ -47,7 +47,7 @@ pub fn step(context: &Context, table: &[u8], event: &[u8], new: &mut [u8]) -> St
     };
     let mut kept = Vec::new();
     let mut dropped = 0;
-    for (place, mapping) in records {
+    for (place, mapping) in records(width, table).unwrap_or_default() {
         if in_scope(context, &decoded, &mapping) {
             dropped += 1;
         } else {

@@ -1,5 +1,5 @@
-//! The same step, lookup, replay and converter, as a good engineer would tune
-//! them.
+//! The same steps, plain and counted, lookup, replay and converter, as a good
+//! engineer would tune them.
 //!
 //! Nothing is allocated. One pass judges the table and one writes; the event
 //! is decoded once; of a record only the bytes that a test needs are read;
@@ -7,8 +7,9 @@
 //! come from small tables and not from a `match` on the kind, which a
 //! processor guesses badly where kinds are mixed. The linear width (document
 //! 02, Ask 12) chooses one of those tables before the pass, and no record asks
-//! for it again. Tests compare this with the plain model; the benchmark uses it
-//! as its measure.
+//! for it again. A counted step (Ask 7) counts in the pass that judges, and takes
+//! off in the one that writes. Tests compare this with the plain model; the
+//! benchmark uses it as its measure.
 
 use crate::address::{guest_physical_page, LinearWidth};
 use crate::context::Context;
@@ -17,6 +18,7 @@ use crate::judge::{grounds, needed, rule};
 use crate::lookup::Address;
 use crate::replay::Line;
 use crate::step::Step;
+use crate::tally::{Kinds, PCIDS};
 use crate::widen::Widened;
 use crate::{LOG_LIMIT, TABLE_LIMIT};
 use std::ops::Range;
@@ -96,13 +98,13 @@ const fn mask(kind: usize, span: usize) -> u128 {
 /// this width.
 fn count(width: LinearWidth, table: &[u8]) -> Option<usize> {
     let mut count = 0;
-    judge(width, table, |_| count += 1).then_some(count)
+    judge(width, table, |_, _, _| count += 1).then_some(count)
 }
 
-/// Whether a table is whole, valid records at this width. Hands on the kind of
-/// each.
+/// Whether a table is whole, valid records at this width. Hands on the kind,
+/// the span and the first bytes of each.
 #[inline(always)]
-fn judge(width: LinearWidth, table: &[u8], mut each: impl FnMut(usize)) -> bool {
+fn judge(width: LinearWidth, table: &[u8], mut each: impl FnMut(usize, usize, &[u8; 16])) -> bool {
     let masks = match width {
         LinearWidth::Bits48 => &MASKS_48,
         LinearWidth::Bits57 => &MASKS_57,
@@ -122,7 +124,7 @@ fn judge(width: LinearWidth, table: &[u8], mut each: impl FnMut(usize)) -> bool 
             return false;
         };
         rest = after;
-        each(kind);
+        each(kind, span, head);
     }
     rest.is_empty()
 }
@@ -213,10 +215,15 @@ fn first(rest: &[u8]) -> Option<Record<'_>> {
     rest.get(..LENGTH[usize::from(kind & 15)]).map(Record)
 }
 
-/// Writes the records that are not in scope, run by run. Hands back their
-/// length and how many others there were.
+/// Writes the records that are not in scope, run by run, and hands on the
+/// others. Hands back the length of what it wrote and how many others there were.
 #[inline(always)]
-fn sweep(table: &[u8], new: &mut [u8], in_scope: impl Fn(Record) -> bool) -> (usize, usize) {
+fn sweep(
+    table: &[u8],
+    new: &mut [u8],
+    each: &mut impl FnMut(Record),
+    in_scope: impl Fn(Record) -> bool,
+) -> (usize, usize) {
     let (mut run, mut at, mut length, mut dropped) = (0, 0, 0, 0);
     while let Some(record) = first(&table[at..]) {
         let end = at + record.0.len();
@@ -224,6 +231,7 @@ fn sweep(table: &[u8], new: &mut [u8], in_scope: impl Fn(Record) -> bool) -> (us
             length = copy(new, length, &table[run..at]);
             run = end;
             dropped += 1;
+            each(record);
         }
         at = end;
     }
@@ -265,7 +273,7 @@ pub fn step(context: &Context, table: &[u8], event: &[u8], new: &mut [u8]) -> St
     if new.len().min(TABLE_LIMIT) < needed(table, event, &decoded) {
         return Step::refused(12, context);
     }
-    let (length, dropped) = write(context, table, count, event, &decoded, new);
+    let (length, dropped) = write(context, table, count, event, &decoded, new, &mut |_| ());
     Step {
         answer: 0,
         rule: 0,
@@ -276,7 +284,7 @@ pub fn step(context: &Context, table: &[u8], event: &[u8], new: &mut [u8]) -> St
 }
 
 /// Writes the new table of an accepted event: its length, and how many
-/// records went.
+/// records went. Hands each of those on, but for a reset.
 fn write(
     context: &Context,
     table: &[u8],
@@ -284,6 +292,7 @@ fn write(
     event: &[u8],
     decoded: &Event,
     new: &mut [u8],
+    each: &mut impl FnMut(Record),
 ) -> (usize, usize) {
     let width = context.linear();
     let keep_all = |new: &mut [u8]| (copy(new, 0, table), 0);
@@ -298,24 +307,24 @@ fn write(
             let vpid = low & 0xFFFF;
             let page = width.page(high);
             match kind {
-                0 => sweep(table, new, |r| {
+                0 => sweep(table, new, each, |r| {
                     r.has_vpid() && r.vpid() == vpid && r.covers(page)
                 }),
-                1 => sweep(table, new, |r| r.has_vpid() && r.vpid() == vpid),
-                2 => sweep(table, new, |r| r.has_vpid() && r.vpid() != 0),
-                _ => sweep(table, new, |r| {
+                1 => sweep(table, new, each, |r| r.has_vpid() && r.vpid() == vpid),
+                2 => sweep(table, new, each, |r| r.has_vpid() && r.vpid() != 0),
+                _ => sweep(table, new, each, |r| {
                     r.has_vpid() && r.vpid() == vpid && !r.global()
                 }),
             }
         }
         Event::Invept { kind: 1, low, .. } => {
             let named = ep4ta(low);
-            sweep(table, new, |r| r.has_ep4ta() && r.ep4ta() == named)
+            sweep(table, new, each, |r| r.has_ep4ta() && r.ep4ta() == named)
         }
-        Event::Invept { .. } => sweep(table, new, |r| r.has_ep4ta()),
+        Event::Invept { .. } => sweep(table, new, each, |r| r.has_ep4ta()),
         Event::Invlpg { address } if width.canonical(address) => {
             let page = width.page(address);
-            sweep(table, new, |r| {
+            sweep(table, new, each, |r| {
                 r.has_vpid() && r.current(context) && (!r.is_translation() || r.covers(page))
             })
         }
@@ -323,39 +332,45 @@ fn write(
         Event::EptViolation {
             guest_physical,
             linear,
-        } => violation(context, table, guest_physical, linear, new),
-        Event::Entry { vpid: None, .. } => vpid_zero(table, new),
-        Event::Exit { .. } if context.vpid() == 0 => vpid_zero(table, new),
+        } => violation(context, table, guest_physical, linear, new, each),
+        Event::Entry { vpid: None, .. } => vpid_zero(table, new, each),
+        Event::Exit { .. } if context.vpid() == 0 => vpid_zero(table, new, each),
         Event::Entry { .. } | Event::Exit { .. } => keep_all(new),
         Event::Invpcid { kind, low, high } => {
             let vpid = context.vpid();
             let pcid = low & 0xFFF;
             let page = width.page(high);
             match kind {
-                0 => sweep(table, new, |r| {
+                0 => sweep(table, new, each, |r| {
                     r.has_vpid()
                         && r.vpid() == vpid
                         && r.pcid() == pcid
                         && r.covers(page)
                         && !r.global()
                 }),
-                1 => pcid_not_global(table, vpid, pcid, new),
-                2 => sweep(table, new, |r| r.has_vpid() && r.vpid() == vpid),
-                _ => sweep(table, new, |r| {
+                1 => pcid_not_global(table, vpid, pcid, new, each),
+                2 => sweep(table, new, each, |r| r.has_vpid() && r.vpid() == vpid),
+                _ => sweep(table, new, each, |r| {
                     r.has_vpid() && r.vpid() == vpid && !r.global()
                 }),
             }
         }
-        Event::MovToCr3 { pcid } => pcid_not_global(table, context.vpid(), pcid, new),
+        Event::MovToCr3 { pcid } => pcid_not_global(table, context.vpid(), pcid, new, each),
     }
 }
 
-fn vpid_zero(table: &[u8], new: &mut [u8]) -> (usize, usize) {
-    sweep(table, new, |r| r.has_vpid() && r.vpid() == 0)
+fn vpid_zero(table: &[u8], new: &mut [u8], each: &mut impl FnMut(Record)) -> (usize, usize) {
+    sweep(table, new, each, |r| r.has_vpid() && r.vpid() == 0)
 }
 
-fn pcid_not_global(table: &[u8], vpid: u64, pcid: u64, new: &mut [u8]) -> (usize, usize) {
-    sweep(table, new, |r| {
+fn pcid_not_global(
+    table: &[u8],
+    vpid: u64,
+    pcid: u64,
+    new: &mut [u8],
+    each: &mut impl FnMut(Record),
+) -> (usize, usize) {
+    sweep(table, new, each, |r| {
         r.has_vpid() && r.vpid() == vpid && r.pcid() == pcid && !r.global()
     })
 }
@@ -366,17 +381,130 @@ fn violation(
     guest_physical: u64,
     linear: Option<u64>,
     new: &mut [u8],
+    each: &mut impl FnMut(Record),
 ) -> (usize, usize) {
     let (vpid, pcid) = (context.vpid(), context.pcid);
     let current = context.ep4ta().unwrap_or(u64::MAX);
     let guest_page = guest_physical_page(guest_physical);
     // No record covers a page of 2^45 or more.
     let linear_page = linear.map_or(u64::MAX, |address| context.linear().page(address));
-    sweep(table, new, |r| match r.kind() {
+    sweep(table, new, each, |r| match r.kind() {
         1 | 4 | 7 | 9 => false,
         2 | 5 => r.ep4ta() == current && r.covers(guest_page),
         _ => r.vpid() == vpid && r.pcid() == pcid && r.ep4ta() == current && r.covers(linear_page),
     })
+}
+
+/// The place of a kind's row among the cells.
+const CELL_AT: [usize; 16] = [0, 0, 5, 10, 15, 20, 25, 0, 10, 15, 25, 0, 0, 0, 0, 0];
+
+/// What a record of a kind adds to the count of its PCID: 0 for kinds 2 and 5,
+/// whose bytes there are others.
+const PCID_COUNTS: [u16; 16] = [0, 1, 0, 1, 1, 0, 1, 1, 1, 1, 1, 0, 0, 0, 0, 0];
+
+/// A fresh count: the six rows end to end, and the PCIDs.
+struct Fresh {
+    cells: [u16; 32],
+    pcids: [u16; PCIDS],
+}
+
+/// The cell of a valid record.
+#[inline(always)]
+fn cell(kind: usize, span: usize) -> usize {
+    (CELL_AT[kind] + span) & 31
+}
+
+/// The place of the PCID in a record's first bytes. Kinds 2 and 5 have other
+/// bytes there, and no count of theirs changes.
+#[inline(always)]
+fn pcid_at(head: &[u8]) -> usize {
+    usize::from(u16::from_le_bytes([head[3], head[4]]) & 0xFFF)
+}
+
+impl Fresh {
+    /// As rows.
+    fn kinds(&self) -> Kinds {
+        let mut kinds = Kinds::default();
+        kinds.as_flattened_mut().copy_from_slice(&self.cells[..30]);
+        kinds
+    }
+}
+
+/// As [`crate::counted_step()`], with the rows by value and the PCIDs lent.
+pub fn counted_step(
+    context: &Context,
+    kinds: Kinds,
+    pcids: &mut [u16],
+    table: &[u8],
+    event: &[u8],
+    new: &mut [u8],
+) -> (Step, Kinds) {
+    let refused = |answer| (Step::refused(answer, context), kinds);
+    if !context.in_range() {
+        return refused(1);
+    }
+    if table.len() > TABLE_LIMIT {
+        return refused(2);
+    }
+    let width = context.linear();
+    let mut count = 0;
+    let mut fresh = Fresh {
+        cells: [0; 32],
+        pcids: [0; PCIDS],
+    };
+    let valid = judge(width, table, |kind, span, head| {
+        count += 1;
+        fresh.cells[cell(kind, span)] += 1;
+        fresh.pcids[pcid_at(head)] += PCID_COUNTS[kind];
+    });
+    if !valid {
+        return refused(3);
+    }
+    let Some(decoded) = Event::decode(width, event) else {
+        return refused(4);
+    };
+    let Ok(pcids) = <&mut [u16; PCIDS]>::try_from(pcids) else {
+        return refused(13);
+    };
+    if fresh.cells[..30] != *kinds.as_flattened() || fresh.pcids != *pcids {
+        return refused(13);
+    }
+    let grounds = grounds(context, &decoded);
+    if grounds != 0 {
+        let (step, kinds) = refused(grounds);
+        let rule = rule(context, &decoded, grounds);
+        return (Step { rule, ..step }, kinds);
+    }
+    if new.len().min(TABLE_LIMIT) < needed(table, event, &decoded) {
+        return refused(12);
+    }
+    let each = &mut |record: Record| {
+        let kind = usize::from(record.kind() & 15);
+        let span = usize::from(record.0[SPAN_AT[kind]]);
+        fresh.cells[cell(kind, span)] -= 1;
+        pcids[pcid_at(record.0)] -= PCID_COUNTS[kind];
+    };
+    let (length, dropped) = write(context, table, count, event, &decoded, new, each);
+    match decoded {
+        Event::Creation(mapping) => {
+            let kind = mapping.kind as usize;
+            fresh.cells[cell(kind, mapping.span as usize)] += 1;
+            pcids[pcid_at(event)] += PCID_COUNTS[kind];
+        }
+        Event::Reset => {
+            fresh.cells.fill(0);
+            pcids.fill(0);
+        }
+        _ => {}
+    }
+    let step = Step {
+        answer: 0,
+        rule: 0,
+        context: decoded.after(context),
+        length,
+        dropped,
+    };
+    (step, fresh.kinds())
 }
 
 /// As [`crate::lookup()`].
@@ -488,7 +616,7 @@ pub fn widen(table: &[u8], new: &mut [u8]) -> Widened {
         return Widened::refused(2);
     }
     let mut length = table.len();
-    let gain = |kind| length += widened_length(kind) - LENGTH[kind];
+    let gain = |kind: usize, _, _: &_| length += widened_length(kind) - LENGTH[kind];
     if !judge(LinearWidth::Bits48, table, gain) {
         return Widened::refused(3);
     }

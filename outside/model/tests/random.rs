@@ -1,10 +1,15 @@
-//! The plain step against the tuned one and the book, on random inputs. A
-//! failure prints the seed and the case.
+//! The plain steps against the tuned ones and the book, and the tally that is
+//! carried on against a fresh count, on random inputs. A failure prints the seed
+//! and the case.
 
 use generate::{case, events, filling_log, hex, log, query, removal, start, Rng};
 use model::book::Book;
+use model::event::Event;
+use model::mapping::records;
 use model::replay::lines;
-use model::{lookup, replay, step, tuned, usable, widen, Address, Context, Line, TABLE_LIMIT};
+use model::tally::carried;
+use model::{count, counted_step, lookup, replay, step, tuned, usable, widen};
+use model::{Address, Context, Line, Tally, TABLE_LIMIT};
 
 const SEED: u64 = 20_260_101;
 
@@ -37,6 +42,41 @@ fn steps() {
     println!("answers reached: {reached:?}, rules: {rules:?}");
     assert!(reached.iter().all(|count| *count > 1_000));
     assert!(rules.iter().all(|count| *count > 200));
+}
+
+/// Counted steps, one in six with a wrong tally.
+#[test]
+fn counted_steps() {
+    println!("seed {SEED}");
+    let mut rng = Rng::new(SEED);
+    let mut reached = [0; 14];
+    for number in 0..40_000 {
+        let case = case(&mut rng);
+        let (context, table, event) = (&case.context, &case.table, &case.event);
+        let before = case.tally.tally();
+        let (mut after, mut pcids) = (before.clone(), before.pcids.clone());
+        let mut plain = case.new.clone();
+        let mut fast = case.new.clone();
+        let expected = counted_step(context, &mut after, table, event, &mut plain);
+        let got = tuned::counted_step(context, before.kinds, &mut pcids, table, event, &mut fast);
+        let same = (expected, after.kinds) == got && after.pcids == pcids && plain == fast;
+        assert!(
+            same,
+            "seed {SEED}, case {number}\n{case}\n{expected:?}\n{got:?}"
+        );
+        // Accepted, or refused on another ground, it is the step without a tally.
+        if expected.answer != 13 {
+            let mut new = case.new.clone();
+            assert_eq!(step(context, table, event, &mut new), expected, "{case}");
+            assert_eq!(new, plain, "{case}");
+        }
+        if expected.answer != 0 {
+            assert!(after == before && plain == case.new, "{case}");
+        }
+        reached[expected.answer as usize] += 1;
+    }
+    println!("answers reached: {reached:?}");
+    assert!(reached.iter().all(|count| *count > 400));
 }
 
 #[test]
@@ -94,10 +134,11 @@ fn near_events_all() {
     }
 }
 
-/// One run of the plain step: the context and the table in force.
+/// One run of the counted step: the context, the table in force and its tally.
 struct Run {
     context: Context,
     table: Vec<u8>,
+    tally: Tally,
 }
 
 impl Run {
@@ -105,19 +146,53 @@ impl Run {
         Run {
             context: *start,
             table: Vec::new(),
+            tally: Tally::empty(),
         }
     }
 
-    /// Answer, EPTP rule and dropped count of one event.
+    /// Answer, EPTP rule and dropped count of one event. The tally that is
+    /// carried on must be the fresh count, and the plain step must agree.
     fn feed(&mut self, event: &[u8], room: usize) -> (u64, u64, usize) {
         let mut new = vec![0; room];
-        let step = step(&self.context, &self.table, event, &mut new);
+        let plain = step(&self.context, &self.table, event, &mut new);
+        let mut counted = vec![0; room];
+        let mut tally = self.tally.clone();
+        let step = counted_step(&self.context, &mut tally, &self.table, event, &mut counted);
+        assert_eq!(step, plain);
+        assert!(counted == new);
         if step.answer == 0 {
+            let decoded = Event::decode(self.context.linear(), event).unwrap();
+            let carried = carried(&self.context, &self.tally, &self.table, &decoded);
+            assert_eq!(carried, tally);
             new.truncate(step.length);
             self.table = new;
+        } else {
+            assert_eq!(tally, self.tally);
         }
+        self.tally = tally;
         self.context = step.context;
+        self.check_tally();
         (step.answer, step.rule, step.dropped)
+    }
+
+    fn check_tally(&self) {
+        let fresh = count(self.context.linear(), &self.table);
+        assert_eq!(fresh.as_ref(), Ok(&self.tally));
+    }
+
+    /// Takes records out of the table, and off the tally.
+    fn take_out(&mut self, rng: &mut Rng) {
+        let left = removal(rng, &self.table);
+        let mut rest = &left[..];
+        for (place, mapping) in records(self.context.linear(), &self.table).unwrap() {
+            match rest.strip_prefix(&self.table[place]) {
+                Some(after) => rest = after,
+                None => self.tally.take_off(&mapping),
+            }
+        }
+        assert!(rest.is_empty());
+        self.table = left;
+        self.check_tally();
     }
 }
 
@@ -160,7 +235,7 @@ fn second_runs() {
             let addresses: Vec<Address> =
                 (0..4).map(|_| generate::address(&mut rng, width)).collect();
             in_order_parts(&first, &second, &addresses);
-            second.table = removal(&mut rng, &second.table);
+            second.take_out(&mut rng);
             in_order_parts(&first, &second, &addresses);
             let (answer, rule, _) = first.feed(&event, TABLE_LIMIT);
             let (other, other_rule, _) = second.feed(&event, TABLE_LIMIT);

@@ -16,7 +16,7 @@
 //! version stand in two buffers of the caller, which take turns:
 //!
 //! ```
-//! use skuldrefn::{lookup, step, Address, Context, Place, TABLE_LIMIT};
+//! use skuldrefn::{lookup, step, Address, Context, Place, Tally, TABLE_LIMIT};
 //!
 //! let guest = Context {
 //!     pcid: 1,
@@ -26,8 +26,10 @@
 //! // A linear translation of page 12345h: VPID 5, PCID 1, frame ABCDEh.
 //! let created = [1, 5, 0, 1, 0, 0, 0, 0x45, 0x23, 1, 0, 0, 0xDE, 0xBC, 0x0A, 0, 0];
 //! let mut table = [0; TABLE_LIMIT];
-//! let done = step(&guest, &[], &created, &mut table);
+//! let mut tally = Tally::new();
+//! let done = step(&guest, &mut tally, &[], &created, &mut table);
 //! assert_eq!((done.answer, done.length, done.dropped), (0, 17, 0));
+//! assert_eq!(tally.pcids[1], 1);
 //!
 //! let at = |address| lookup(&guest, &table[..done.length], Address::Linear(address), 0);
 //! assert_eq!(at(0x1234_5678), (0, Some(0..17)));
@@ -39,6 +41,9 @@
 //! [`FlatContext`], where a place may be any number too. [`raw`] has the C
 //! functions themselves.
 //!
+//! A step carries a [`Tally`]: how many records the table has of each kind and
+//! span, and of each PCID. [`plain_step`] does without.
+//!
 //! A context has a linear width, 48 or 57 bits. [`widen`] makes a table of the
 //! second sort from a stored one of the first.
 
@@ -46,12 +51,14 @@ mod context;
 mod logs;
 pub mod raw;
 mod reason;
+mod tally;
 
 pub use context::{Context, Place};
 pub use logs::{event_length, events, lines, replay, replay_flat, Line, Replay};
-pub use raw::{FlatContext, FlatReason, FlatReplayed, FlatStep, Part, Widened};
+pub use raw::{FlatContext, FlatReason, FlatReplayed, FlatStep, Kinds, Part, Row, Widened};
 pub use reason::Reason;
 use std::ops::Range;
+pub use tally::{count, step, step_flat, Tally};
 
 /// The longest table, in bytes.
 pub const TABLE_LIMIT: usize = 47_104;
@@ -61,6 +68,9 @@ pub const LOG_LIMIT: usize = 65_536;
 
 /// The bytes of one row of a replay.
 pub const ROW: usize = 24;
+
+/// How many PCIDs there are, 0 to 4,095; as many counts a tally has for them.
+pub const PCIDS: usize = 4_096;
 
 /// The replay program's IA32_VMX_EPT_VPID_CAP: bits 6, 8, 14, 20, 21, 25, 26,
 /// 32 and 40 to 43.
@@ -78,7 +88,7 @@ pub const LIBRARY: &str = env!("SKULDREFN_LIB_FOUND");
 /// What a step reports. A refusal hands back the context as it came, 0 and 0.
 #[derive(Clone, Copy, Debug, PartialEq, Eq)]
 pub struct Step {
-    /// 0 to 12; 0 is accepted.
+    /// 0 to 13; 0 is accepted, and a plain step never gives 13.
     pub answer: u64,
     /// The first rule that the EPTP breaks, if that is the ground of answer 8
     /// or 10, else 0: 1 memory type, 2 walk length, 3 accessed and dirty, 4
@@ -92,13 +102,17 @@ pub struct Step {
     pub dropped: usize,
 }
 
-/// One event on a context and a table. The new table is written to the start
-/// of `new`, and the bytes past it stay; a refusal writes nothing.
+/// One event on a context and a table, without a tally. The new table is
+/// written to the start of `new`, and the bytes past it stay; a refusal writes
+/// nothing.
 ///
 /// # Panics
 /// If the library hands back what its contract rules out.
-pub fn step(context: &Context, table: &[u8], event: &[u8], new: &mut [u8]) -> Step {
-    let step = step_flat(&context.into(), table, event, new);
+pub fn plain_step(context: &Context, table: &[u8], event: &[u8], new: &mut [u8]) -> Step {
+    known_step(&plain_step_flat(&context.into(), table, event, new))
+}
+
+fn known_step(step: &FlatStep) -> Step {
     Step {
         answer: step.answer,
         rule: step.rule,
@@ -115,12 +129,17 @@ fn known(context: &FlatContext) -> Context {
     }
 }
 
-/// One step, on a flat context.
-pub fn step_flat(context: &FlatContext, table: &[u8], event: &[u8], new: &mut [u8]) -> FlatStep {
+/// One step without a tally, on a flat context.
+pub fn plain_step_flat(
+    context: &FlatContext,
+    table: &[u8],
+    event: &[u8],
+    new: &mut [u8],
+) -> FlatStep {
     // SAFETY: each pointer is good for its length during the call, `new` is
     // borrowed alone, and the library keeps nothing.
     unsafe {
-        raw::skuldrefn_step(
+        raw::skuldrefn_plain_step(
             *context,
             table.as_ptr(),
             table.len(),

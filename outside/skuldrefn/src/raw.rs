@@ -2,8 +2,8 @@
 //! what each function does.
 //!
 //! These functions are unsafe to call: every pointer must be good for the
-//! length that comes with it (null is allowed with length 0), and a buffer that
-//! is written may overlap no other.
+//! length that comes with it (null is allowed with length 0), one to counts is
+//! aligned as they are, and a buffer that is written may overlap no other.
 
 /// A context as numbers. `place`: 0 outside, 1 root, 2 guest. `vpid`, `ept`
 /// and `ep4ta` are looked at in a guest only, and `ep4ta` with `ept` 1 only.
@@ -22,7 +22,7 @@ pub struct FlatContext {
     pub ep4ta: u64,
 }
 
-/// What a step reports. A refusal hands back the context as it came, 0 and 0.
+/// What a plain step reports. A refusal hands back the context as it came, 0 and 0.
 /// `rule` is 1 to 5 if a bad EPTP is its ground, else 0.
 #[repr(C)]
 #[derive(Clone, Copy, Debug, PartialEq, Eq)]
@@ -32,6 +32,43 @@ pub struct FlatStep {
     pub context: FlatContext,
     pub length: usize,
     pub dropped: usize,
+}
+
+/// How many records of one kind there are, by span, 0 to 4.
+#[repr(C)]
+#[derive(Clone, Copy, Debug, Default, PartialEq, Eq)]
+pub struct Row {
+    pub spans: [u16; 5],
+}
+
+/// A row for each of kinds 1 to 6, in this order. Kinds 7, 8, 9 and 10 are
+/// counted in the rows of 1, 3, 4 and 6.
+#[repr(C)]
+#[derive(Clone, Copy, Debug, Default, PartialEq, Eq)]
+pub struct Kinds {
+    pub rows: [Row; 6],
+}
+
+/// What a step with a tally reports: as [`FlatStep`], and the counts by kind
+/// and span after the event. A refusal hands these back as they came too.
+#[repr(C)]
+#[derive(Clone, Copy, Debug, PartialEq, Eq)]
+pub struct CountedStep {
+    pub answer: u64,
+    pub rule: u64,
+    pub context: FlatContext,
+    pub length: usize,
+    pub dropped: usize,
+    pub kinds: Kinds,
+}
+
+/// What a fresh count reports: 0, 2, 3 or 13, and the counts by kind and span,
+/// all 0 on a refusal.
+#[repr(C)]
+#[derive(Clone, Copy, Debug, PartialEq, Eq)]
+pub struct Counted {
+    pub answer: u64,
+    pub kinds: Kinds,
 }
 
 /// What a lookup reports: a part of the table, or 0 and 0.
@@ -76,6 +113,19 @@ pub struct Widened {
 extern "C" {
     pub fn skuldrefn_step(
         context: FlatContext,
+        kinds: Kinds,
+        pcids: *mut u16,
+        pcids_length: usize,
+        table: *const u8,
+        table_length: usize,
+        event: *const u8,
+        event_length: usize,
+        new_table: *mut u8,
+        new_length: usize,
+    ) -> CountedStep;
+
+    pub fn skuldrefn_plain_step(
+        context: FlatContext,
         table: *const u8,
         table_length: usize,
         event: *const u8,
@@ -83,6 +133,14 @@ extern "C" {
         new_table: *mut u8,
         new_length: usize,
     ) -> FlatStep;
+
+    pub fn skuldrefn_count(
+        linear_width: u64,
+        table: *const u8,
+        table_length: usize,
+        pcids: *mut u16,
+        pcids_length: usize,
+    ) -> Counted;
 
     pub fn skuldrefn_lookup_linear(
         context: FlatContext,

@@ -1,8 +1,9 @@
 //! The wrapper itself: document 01's example, flat contexts, 57-bit addresses,
-//! empty slices and null.
+//! tallies, empty slices and null.
 
-use skuldrefn::{raw, Address, Context, FlatContext, FlatReason, FlatStep, Place, Reason};
-use skuldrefn::{Widened, PROGRAM_CAPABILITY, PROGRAM_LINEAR_WIDTH, PROGRAM_WIDTH, TABLE_LIMIT};
+use skuldrefn::{raw, Address, Context, FlatContext, FlatReason, FlatStep, Kinds, Place, Reason};
+use skuldrefn::{Tally, Widened, PCIDS, TABLE_LIMIT};
+use skuldrefn::{PROGRAM_CAPABILITY, PROGRAM_LINEAR_WIDTH, PROGRAM_WIDTH};
 use std::ptr::{null, null_mut};
 
 const A: [u8; 17] = [
@@ -42,12 +43,12 @@ fn refused(answer: u64, context: FlatContext) -> FlatStep {
 #[test]
 fn a_creation_and_a_reset() {
     let mut new = [0xA5; 40];
-    let step = skuldrefn::step(&guest(), &A, &A, &mut new);
+    let step = skuldrefn::plain_step(&guest(), &A, &A, &mut new);
     assert_eq!((step.answer, step.length, step.dropped), (0, 34, 0));
     assert_eq!(step.context, guest());
     assert_eq!(new[..34], [A, A].concat());
     assert_eq!(new[34..], [0xA5; 6]);
-    let step = skuldrefn::step(&guest(), &A, &RESET, &mut new);
+    let step = skuldrefn::plain_step(&guest(), &A, &RESET, &mut new);
     assert_eq!((step.answer, step.length, step.dropped), (0, 0, 1));
     assert_eq!(step.context, Context::program());
 }
@@ -63,7 +64,7 @@ fn invpcid_and_mov_to_cr3() {
     let mov_to_cr3 = |pcid| [27, pcid, 0];
     for event in [&invpcid[..], &mov_to_cr3(1)] {
         let mut new = [0xA5; 34];
-        let step = skuldrefn::step(&guest(), &table, event, &mut new);
+        let step = skuldrefn::plain_step(&guest(), &table, event, &mut new);
         assert_eq!((step.answer, step.length, step.dropped), (0, 17, 1));
         assert_eq!(step.context, guest());
         assert_eq!(new[..17], global);
@@ -73,7 +74,7 @@ fn invpcid_and_mov_to_cr3() {
     }
     // Another PCID becomes current, and PCID 1's mappings stay.
     let mut new = [0xA5; 34];
-    let step = skuldrefn::step(&guest(), &table, &mov_to_cr3(2), &mut new);
+    let step = skuldrefn::plain_step(&guest(), &table, &mov_to_cr3(2), &mut new);
     assert_eq!((step.answer, step.length, step.dropped), (0, 34, 0));
     assert_eq!(step.context, Context { pcid: 2, ..guest() });
     assert_eq!(new[..], table);
@@ -113,7 +114,7 @@ fn numbers_that_stand_for_nothing_are_answered_1() {
             ..start()
         };
         assert_eq!(context.context(), None);
-        let step = skuldrefn::step_flat(&context, &A, &RESET, &mut new);
+        let step = skuldrefn::plain_step_flat(&context, &A, &RESET, &mut new);
         assert_eq!(step, refused(1, context));
         assert_eq!(new, [0xA5; 40]);
         let reason = skuldrefn::explain_flat(&context, &A, &RESET);
@@ -178,7 +179,7 @@ fn rules() {
             [(invept, 8, Reason::WrongKind), (entry, 10, Reason::NoScope)]
         {
             let answer = if rule == 0 { 0 } else { refusal };
-            let step = skuldrefn::step(&root, &[], &event, &mut []);
+            let step = skuldrefn::plain_step(&root, &[], &event, &mut []);
             assert_eq!((step.answer, step.rule), (answer, rule));
             let due = match rule {
                 0 => accepted,
@@ -191,15 +192,15 @@ fn rules() {
 
 #[test]
 fn empty_slices() {
-    let step = skuldrefn::step_flat(&start(), &[], &RESET, &mut []);
+    let step = skuldrefn::plain_step_flat(&start(), &[], &RESET, &mut []);
     let accepted = FlatStep {
         answer: 0,
         ..refused(0, start())
     };
     assert_eq!(step, accepted);
-    let step = skuldrefn::step_flat(&start(), &[], &[], &mut []);
+    let step = skuldrefn::plain_step_flat(&start(), &[], &[], &mut []);
     assert_eq!(step, refused(4, start()));
-    let step = skuldrefn::step_flat(&start(), &A, &VMXON, &mut []);
+    let step = skuldrefn::plain_step_flat(&start(), &A, &VMXON, &mut []);
     assert_eq!(step, refused(12, start()));
     let explain = |record, event| skuldrefn::explain(&Context::program(), record, event);
     assert_eq!(explain(&[], &RESET), Reason::refused(3));
@@ -213,9 +214,9 @@ fn null_with_length_0() {
     // SAFETY: null goes with length 0, which the header allows.
     let (without_buffers, without_event, without_new) = unsafe {
         (
-            raw::skuldrefn_step(start(), null(), 0, RESET.as_ptr(), 1, null_mut(), 0),
-            raw::skuldrefn_step(start(), null(), 0, null(), 0, new.as_mut_ptr(), 1),
-            raw::skuldrefn_step(start(), A.as_ptr(), 17, VMXON.as_ptr(), 1, null_mut(), 0),
+            raw::skuldrefn_plain_step(start(), null(), 0, RESET.as_ptr(), 1, null_mut(), 0),
+            raw::skuldrefn_plain_step(start(), null(), 0, null(), 0, new.as_mut_ptr(), 1),
+            raw::skuldrefn_plain_step(start(), A.as_ptr(), 17, VMXON.as_ptr(), 1, null_mut(), 0),
         )
     };
     assert_eq!(without_buffers, refused(0, start()));
@@ -340,12 +341,12 @@ fn the_linear_width() {
         (57, &A, 4),
         (56, &A, 1),
     ] {
-        let step = skuldrefn::step(&at(width), &[], event, &mut new);
+        let step = skuldrefn::plain_step(&at(width), &[], event, &mut new);
         assert_eq!(step.answer, answer);
         assert_eq!(step.context, at(width));
     }
     let step =
-        |width, table: &[u8]| skuldrefn::step(&at(width), table, &RESET, &mut [0; 40]).answer;
+        |width, table: &[u8]| skuldrefn::plain_step(&at(width), table, &RESET, &mut [0; 40]).answer;
     assert_eq!(
         [step(48, &A), step(48, &W), step(57, &W), step(57, &A)],
         [0, 3, 0, 3]
@@ -385,4 +386,429 @@ fn the_converter() {
         let no_room = raw::skuldrefn_widen(A.as_ptr(), 17, null_mut(), 0);
         assert_eq!(no_room, refused(12));
     }
+}
+
+/// A valid record of a kind: page and frame are 0, and the VPID is 5 where it
+/// has one.
+fn record(kind: u8, pcid: u16, global: u8, span: u8) -> Vec<u8> {
+    let [low, high] = pcid.to_le_bytes();
+    let tags = match kind {
+        2 | 5 => vec![0; 5],
+        1 | 3 | 7 | 8 => vec![5, 0, low, high, global],
+        _ => vec![5, 0, low, high],
+    };
+    let rest = match kind {
+        1 | 2 | 4 | 5 => 10,
+        7 | 9 => 11,
+        3 | 6 => 15,
+        _ => 16,
+    };
+    [&[kind], &tags[..], &[span], &vec![0; rest]].concat()
+}
+
+/// A tally of counts by row, span and count, and by PCID and count; the others
+/// are 0.
+fn tally(cells: &[(usize, usize, u16)], pcids: &[(usize, u16)]) -> Tally {
+    let mut tally = Tally::new();
+    for (row, span, count) in cells {
+        tally.kinds.rows[*row].spans[*span] = *count;
+    }
+    for (pcid, count) in pcids {
+        tally.pcids[*pcid] = *count;
+    }
+    tally
+}
+
+/// Each kind in its row, by each span that it may have.
+#[test]
+fn the_count_of_one_record() {
+    for (width, kind, row, spans) in [
+        (48, 1, 0, 0..=2),
+        (48, 2, 1, 0..=2),
+        (48, 3, 2, 0..=2),
+        (48, 4, 3, 1..=3),
+        (48, 5, 4, 1..=3),
+        (48, 6, 5, 1..=3),
+        (57, 7, 0, 0..=2),
+        (57, 2, 1, 0..=2),
+        (57, 8, 2, 0..=2),
+        (57, 9, 3, 1..=4),
+        (57, 5, 4, 1..=3),
+        (57, 10, 5, 1..=4),
+    ] {
+        for span in spans {
+            let cells = [(row, usize::from(span), 1)];
+            for (pcid, global) in [(0, 0), (7, 0), (7, 1), (4_095, 1)] {
+                let due = match kind {
+                    2 | 5 => tally(&cells, &[]),
+                    _ => tally(&cells, &[(usize::from(pcid), 1)]),
+                };
+                let table = record(kind, pcid, global, span);
+                assert_eq!(skuldrefn::count(width, &table), Ok(due), "{table:?}");
+            }
+        }
+    }
+}
+
+#[test]
+fn the_count_of_a_table() {
+    assert_eq!(skuldrefn::count(48, &[]), Ok(Tally::new()));
+    let table = [
+        record(1, 1, 0, 0),
+        record(1, 2, 1, 0),
+        record(1, 1, 0, 2),
+        record(2, 0, 0, 1),
+        record(4, 1, 0, 3),
+        record(5, 0, 0, 1),
+        record(6, 4_095, 0, 1),
+        record(1, 1, 0, 0),
+    ];
+    let due = tally(
+        &[
+            (0, 0, 3),
+            (0, 2, 1),
+            (1, 1, 1),
+            (3, 3, 1),
+            (4, 1, 1),
+            (5, 1, 1),
+        ],
+        &[(1, 4), (2, 1), (4_095, 1)],
+    );
+    assert_eq!(skuldrefn::count(48, &table.concat()), Ok(due.clone()));
+    // At 57 bits it has the same counts.
+    let mut wide = [0; 200];
+    let widened = skuldrefn::widen(&table.concat(), &mut wide);
+    assert_eq!(skuldrefn::count(57, &wide[..widened.length]), Ok(due));
+    // 2,944 records of 16 bytes are 47,104: no table has more.
+    let full = record(4, 3, 0, 1).repeat(2_944);
+    let due = tally(&[(3, 1, 2_944)], &[(3, 2_944)]);
+    assert_eq!(skuldrefn::count(48, &full), Ok(due));
+}
+
+#[test]
+fn a_table_that_is_not_counted() {
+    for (width, table, answer) in [
+        (48, vec![0; TABLE_LIMIT + 1], 2),
+        (57, A.repeat(2_771), 2),
+        (48, A[..16].to_vec(), 3),
+        (48, VMXON.to_vec(), 3),
+        (48, W.to_vec(), 3),
+        (57, A.to_vec(), 3),
+        (56, W.to_vec(), 3),
+    ] {
+        assert_eq!(skuldrefn::count(width, &table), Err(answer));
+        // Nothing is written.
+        let mut pcids = vec![0xA5A5; PCIDS];
+        let (start, length) = (table.as_ptr(), table.len());
+        // SAFETY: each pointer is good for its length.
+        let counted =
+            unsafe { raw::skuldrefn_count(width, start, length, pcids.as_mut_ptr(), PCIDS) };
+        assert_eq!((counted.answer, counted.kinds), (answer, Kinds::default()));
+        assert_eq!(pcids, [0xA5A5; PCIDS]);
+    }
+    // Any linear width but 57 is read as 48.
+    assert_eq!(skuldrefn::count(56, &A), skuldrefn::count(48, &A));
+}
+
+/// A count has room for 4,096 PCIDs, no fewer and no more. The table is judged
+/// first.
+#[test]
+fn the_room_of_a_count() {
+    let mut pcids = vec![0xA5A5; PCIDS + 1];
+    for length in [0, 1, PCIDS - 1, PCIDS + 1] {
+        for (table, answer) in [(&A[..], 13), (&[], 13), (&A[..16], 3)] {
+            // SAFETY: each pointer is good for its length.
+            let counted = unsafe {
+                raw::skuldrefn_count(48, table.as_ptr(), table.len(), pcids.as_mut_ptr(), length)
+            };
+            assert_eq!((counted.answer, counted.kinds), (answer, Kinds::default()));
+        }
+    }
+    assert_eq!(pcids, [0xA5A5; PCIDS + 1]);
+    // SAFETY: as above; null goes with length 0, which the header allows.
+    let (without_pcids, without_table) = unsafe {
+        (
+            raw::skuldrefn_count(48, null(), 0, null_mut(), 0),
+            raw::skuldrefn_count(48, null(), 0, pcids.as_mut_ptr(), PCIDS),
+        )
+    };
+    assert_eq!(without_pcids.answer, 13);
+    assert_eq!(without_table.answer, 0);
+    assert_eq!(pcids[..PCIDS], [0; PCIDS]);
+    assert_eq!(pcids[PCIDS], 0xA5A5);
+}
+
+/// What is created is added, and what is dropped is taken off.
+#[test]
+fn a_tally_from_step_to_step() {
+    let mut own = Tally::new();
+    assert_eq!(own, Tally::default());
+    let mut tables = [vec![0; 100], vec![0; 100]];
+    let mut length = 0;
+    let [old, new] = &mut tables;
+    let mut global = A;
+    global[5] = 1;
+    let structure = record(4, 1, 0, 2);
+    // INVLPG of A's page takes it, global or not, and the structure cache.
+    let invlpg = [&[18], &0x1234_5000_u64.to_le_bytes()[..]].concat();
+    // INVVPID is refused in a guest.
+    let invvpid = [&[16, 1], &[0; 7][..], &[5], &[0; 15]].concat();
+    for (event, answer, dropped, cells, pcid_1) in [
+        (&A[..], 0, 0, &[(0, 0, 1)][..], 1),
+        (&A[..], 0, 0, &[(0, 0, 2)], 2),
+        (&structure, 0, 0, &[(0, 0, 2), (3, 2, 1)], 3),
+        (&invvpid, 6, 0, &[(0, 0, 2), (3, 2, 1)], 3),
+        (&global, 0, 0, &[(0, 0, 3), (3, 2, 1)], 4),
+        // MOV to CR3 with PCID 1 takes all that is not global.
+        (&[27, 1, 0], 0, 3, &[(0, 0, 1)], 1),
+        (&structure, 0, 0, &[(0, 0, 1), (3, 2, 1)], 2),
+        (&invlpg, 0, 2, &[], 0),
+        (&A[..], 0, 0, &[(0, 0, 1)], 1),
+        (&RESET, 0, 1, &[], 0),
+    ] {
+        let step = skuldrefn::step(&guest(), &mut own, &old[..length], event, new);
+        assert_eq!((step.answer, step.dropped), (answer, dropped), "{event:?}");
+        assert_eq!(own, tally(cells, &[(1, pcid_1)]), "{event:?}");
+        if answer == 0 {
+            length = step.length;
+            std::mem::swap(old, new);
+        }
+    }
+}
+
+/// Each count has a number of its own: ten times its row, and its span.
+#[test]
+fn the_counts_of_a_tally() {
+    let mut own = Tally::new();
+    assert_eq!(own.records(), 0);
+    for row in 0..6 {
+        for span in 0..5 {
+            let count = 10 * (row + 1) + span;
+            own.kinds.rows[usize::from(row)].spans[usize::from(span)] = count;
+        }
+    }
+    // The rows have 60, 110, 160, 210, 260 and 310. PCIDs are not added.
+    own.pcids[7] = 1;
+    assert_eq!(own.records(), 1_110);
+    for (kind, counts) in [
+        (1, [10, 11, 12, 13, 14]),
+        (2, [20, 21, 22, 23, 24]),
+        (3, [30, 31, 32, 33, 34]),
+        (4, [40, 41, 42, 43, 44]),
+        (5, [50, 51, 52, 53, 54]),
+        (6, [60, 61, 62, 63, 64]),
+        (7, [10, 11, 12, 13, 14]),
+        (8, [30, 31, 32, 33, 34]),
+        (9, [40, 41, 42, 43, 44]),
+        (10, [60, 61, 62, 63, 64]),
+    ] {
+        for (span, count) in (0..).zip(counts) {
+            assert_eq!(own.count_of(kind, span), Some(count), "{kind} {span}");
+        }
+        for span in 5..=u8::MAX {
+            assert_eq!(own.count_of(kind, span), None, "{kind} {span}");
+        }
+    }
+    for kind in (0..=0).chain(11..=u8::MAX) {
+        for span in 0..=u8::MAX {
+            assert_eq!(own.count_of(kind, span), None, "{kind} {span}");
+        }
+    }
+    // The largest counts are no overflow.
+    for row in &mut own.kinds.rows {
+        row.spans = [u16::MAX; 5];
+    }
+    assert_eq!(own.records(), 1_966_050);
+}
+
+/// At 57 bits, in the rows of kinds 1 and 4, with span 4.
+#[test]
+fn a_tally_at_57_bits() {
+    let wide = Context {
+        linear_width: 57,
+        ..guest()
+    };
+    let structure = record(9, 1, 0, 4);
+    let table = [&W[..], &structure].concat();
+    let mut own = skuldrefn::count(57, &table).expect("a valid table");
+    assert_eq!(own, tally(&[(0, 0, 1), (3, 4, 1)], &[(1, 2)]));
+    let mut new = vec![0; 100];
+    let step = skuldrefn::step(&wide, &mut own, &table, &structure, &mut new);
+    assert_eq!((step.answer, step.length), (0, 52));
+    assert_eq!(own, tally(&[(0, 0, 1), (3, 4, 2)], &[(1, 3)]));
+}
+
+/// Every count is compared, those that no record has among them; and the
+/// number of PCIDs.
+#[test]
+fn a_tally_that_does_not_match() {
+    let right = tally(&[(0, 0, 1)], &[(1, 1)]);
+    let mut wrong = Vec::new();
+    for row in 0..6 {
+        for span in 0..5 {
+            let cell = right.kinds.rows[row].spans[span];
+            for count in [cell ^ 1, cell + 2, cell + 256, u16::MAX] {
+                let mut tally = right.clone();
+                tally.kinds.rows[row].spans[span] = count;
+                wrong.push(tally);
+            }
+        }
+    }
+    for pcid in [0, 1, 2, 5, 4_095] {
+        for count in [right.pcids[pcid] ^ 1, right.pcids[pcid] + 256, u16::MAX] {
+            let mut tally = right.clone();
+            tally.pcids[pcid] = count;
+            wrong.push(tally);
+        }
+    }
+    for length in [0, 1, 2, PCIDS - 1, PCIDS + 1] {
+        let mut tally = right.clone();
+        tally.pcids.resize(length, 0);
+        wrong.push(tally);
+    }
+    wrong.push(Tally::new());
+    assert_eq!(wrong.len(), 6 * 5 * 4 + 5 * 3 + 5 + 1);
+    for came in wrong {
+        let mut own = came.clone();
+        let mut new = [0xA5; 40];
+        let context = FlatContext::from(&guest());
+        let step = skuldrefn::step_flat(&context, &mut own, &A, &RESET, &mut new);
+        assert_eq!(step, refused(13, context));
+        assert!(own == came && new == [0xA5; 40]);
+    }
+    let mut own = right;
+    let step = skuldrefn::step(&guest(), &mut own, &A, &RESET, &mut [0; 40]);
+    assert_eq!((step.answer, own), (0, Tally::new()));
+}
+
+/// 13 goes after 4 and before 5. With any refusal the tally stays, right or
+/// wrong.
+#[test]
+fn the_place_of_13() {
+    let root = Context {
+        place: Place::Root,
+        ..Context::program()
+    };
+    let user = Context { cpl: 3, ..guest() };
+    let outside = Context::program();
+    let narrow = Context {
+        width: 35,
+        ..outside
+    };
+    let long = A.repeat(2_771);
+    let invvpid_4 = [&[16, 4], &[0; 23][..]].concat();
+    let invlpg = [18, 0, 0, 0, 0, 0, 0, 0, 0];
+    // VPIDs are enabled, with VPID 0.
+    let entry = [&[20, 1], &[0; 14][..]].concat();
+    for (context, table, event, room, answer) in [
+        (narrow, &long[..], &[][..], 0, 1),
+        (outside, &long, &[], 0, 2),
+        (outside, &A[..16], &[], 0, 3),
+        (outside, &A, &[], 0, 4),
+        (outside, &A, &invvpid_4, 0, 5),
+        (guest(), &A, &VMXON, 0, 6),
+        (user, &A, &invlpg, 0, 7),
+        (root, &A, &invvpid_4, 0, 8),
+        (root, &A, &VMXON, 0, 9),
+        (root, &A, &entry, 0, 10),
+        (root, &A, &A, 0, 11),
+        (guest(), &A, &A, 33, 12),
+        (guest(), &A, &A, 34, 0),
+    ] {
+        let right = tally(&[(0, 0, 1)], &[(1, 1)]);
+        let mut short = right.clone();
+        short.pcids.truncate(4_095);
+        let unmatched = match answer {
+            1..=4 => answer,
+            _ => 13,
+        };
+        for (came, answer) in [
+            (right, answer),
+            (tally(&[(0, 0, 2)], &[(1, 1)]), unmatched),
+            (short, unmatched),
+        ] {
+            let mut own = came.clone();
+            let mut new = vec![0xA5; room];
+            let step = skuldrefn::step(&context, &mut own, table, event, &mut new);
+            assert_eq!(step.answer, answer, "{context:?} {event:?}");
+            if answer == 0 {
+                assert_eq!(own, tally(&[(0, 0, 2)], &[(1, 2)]));
+                continue;
+            }
+            assert_eq!((step.length, step.dropped, step.rule), (0, 0, 0));
+            assert_eq!(step.context, context);
+            assert!(own == came && new == vec![0xA5; room]);
+        }
+    }
+}
+
+/// Where 13 goes before a bad EPTP, there is no rule.
+#[test]
+fn a_rule_and_13() {
+    let root = Context {
+        place: Place::Root,
+        ..Context::program()
+    };
+    // VPID 5, and an EPTP with bit 7.
+    let eptp = 0x12_3456_709E_u64;
+    let entry = [&[20, 1, 5, 0, 1], &eptp.to_le_bytes()[..], &[0; 3]].concat();
+    for (mut own, due) in [
+        (Tally::new(), (10, 4)),
+        (tally(&[], &[(4_095, 1)]), (13, 0)),
+    ] {
+        let step = skuldrefn::step(&root, &mut own, &[], &entry, &mut []);
+        assert_eq!((step.answer, step.rule), due);
+    }
+}
+
+#[test]
+fn null_with_length_0_and_a_tally() {
+    let none = Kinds::default();
+    let mut pcids = vec![0; PCIDS];
+    let counts = pcids.as_mut_ptr();
+    let (reset, one) = (RESET.as_ptr(), RESET.len());
+    // SAFETY: null goes with length 0, which the header allows; the other
+    // pointers are good for their lengths.
+    unsafe {
+        let step = raw::skuldrefn_step(
+            start(),
+            none,
+            counts,
+            PCIDS,
+            null(),
+            0,
+            reset,
+            one,
+            null_mut(),
+            0,
+        );
+        assert_eq!((step.answer, step.context, step.kinds), (0, start(), none));
+        let step = raw::skuldrefn_step(
+            start(),
+            none,
+            null_mut(),
+            0,
+            null(),
+            0,
+            reset,
+            one,
+            null_mut(),
+            0,
+        );
+        assert_eq!((step.answer, step.context, step.kinds), (13, start(), none));
+        let step = raw::skuldrefn_step(
+            start(),
+            none,
+            null_mut(),
+            0,
+            null(),
+            0,
+            null(),
+            0,
+            null_mut(),
+            0,
+        );
+        assert_eq!((step.answer, step.context, step.kinds), (4, start(), none));
+    }
+    assert_eq!(pcids, [0; PCIDS]);
 }

@@ -56,6 +56,32 @@ pub struct Widening {
     pub new: Vec<u8>,
 }
 
+/// The counts of a table (document 02, Ask 7): six rows, of kinds 1 to 6, by span, 0 to 4; and four PCIDs, each with its
+/// count. The count of every other PCID is 0.
+#[derive(Clone, Copy)]
+pub struct Tally {
+    pub kinds: [[u64; 5]; 6],
+    pub pcids: [(u64, u64); 4],
+}
+
+/// A step beside a tally: the step, the tally that is given, and the one after it.
+pub struct CountedStep {
+    pub step: Step,
+    pub given: Tally,
+    pub left: Tally,
+}
+
+/// A fresh count: the linear width, the table, and of how many PCIDs the counts are lent, from PCID 0 on; the answer, and
+/// the counts. A refusal leaves the lent counts, 7 each, as they are.
+pub struct Count {
+    pub name: &'static str,
+    pub linear_width: u64,
+    pub table: Vec<u8>,
+    pub lent: u64,
+    pub answer: u64,
+    pub counts: Tally,
+}
+
 /// A: linear translation, VPID 5, PCID 1, span 0, page 12345h, frame ABCDEh.
 const A: [u8; 17] = [
     0x01, 0x05, 0x00, 0x01, 0x00, 0x00, 0x00, 0x45, 0x23, 0x01, 0x00, 0x00, 0xDE, 0xBC, 0x0A, 0x00,
@@ -91,6 +117,10 @@ fn linear_structure(vpid: u64, pcid: u64, span: u64, page: u64) -> Vec<u8> {
 
 fn combined_structure(vpid: u64, pcid: u64, span: u64, page: u64) -> Vec<u8> {
     encode(6, &[vpid, pcid, span, page, 9, EP4TA])
+}
+
+fn guest_physical_structure(span: u64, page: u64) -> Vec<u8> {
+    encode(5, &[EP4TA, span, page, 9])
 }
 
 fn linear_57(vpid: u64, pcid: u64, global: u64, span: u64, page: u64) -> Vec<u8> {
@@ -192,6 +222,25 @@ fn wide(linear_width: u64, mut context: Context) -> Context {
     context
 }
 
+// Tallies.
+
+/// The PCIDs whose counts are named in the cards.
+const PCIDS: [u64; 4] = [0, 1, 2, 4095];
+
+/// Counts by kind, 1 to 6, and span, and the counts of PCIDs 0, 1, 2 and 4,095. All others are 0.
+fn tally(kinds: &[(usize, usize, u64)], pcids: [u64; 4]) -> Tally {
+    let mut rows = [[0; 5]; 6];
+    for (kind, span, count) in kinds {
+        rows[kind - 1][*span] = *count;
+    }
+    let [none, first, second, last] = pcids;
+    let [p, q, r, s] = PCIDS;
+    Tally {
+        kinds: rows,
+        pcids: [(p, none), (q, first), (r, second), (s, last)],
+    }
+}
+
 // Rows.
 
 /// A step that is accepted and leaves the context as it is.
@@ -225,6 +274,20 @@ impl Step {
     /// The same with a rule of the EPTP.
     fn by(self, rule: u64) -> Step {
         Step { rule, ..self }
+    }
+
+    /// The same beside a tally, with the one after it.
+    fn counts(self, given: Tally, left: Tally) -> CountedStep {
+        CountedStep {
+            step: self,
+            given,
+            left,
+        }
+    }
+
+    /// The same beside a tally that stays as it is, right or wrong.
+    fn leaves(self, given: Tally) -> CountedStep {
+        self.counts(given, given)
     }
 }
 
@@ -390,6 +453,195 @@ pub fn steps() -> Vec<Step> {
         accepts("Ask 12: EPT violation at 57", wide(57, EPT_GUEST), [&combined_57(5, 1, 0, 0, 1 << 44)[..], &G].concat(), violation(0x10000, 1, 0xFF00_0000_0000_0000), 2, NONE),
         refuses("Ask 12: EPT violation, flag 1 and 2^56", wide(57, EPT_GUEST), NONE, violation(0, 1, 1 << 56), 4),
         accepts("Ask 12: reset keeps the linear width", wide(57, ROOT), G, RESET, 1, NONE).then(wide(57, OUTSIDE)),
+    ]
+}
+
+/// Ask 7's steps beside a tally, into a buffer of 64 bytes; a row for each.
+#[rustfmt::skip]
+pub fn counted_steps() -> Vec<CountedStep> {
+    let none = tally(&[], [0, 0, 0, 0]);
+    let a = tally(&[(1, 0, 1)], [0, 1, 0, 0]);
+    let a_a = tally(&[(1, 0, 2)], [0, 2, 0, 0]);
+    let a_a_a = tally(&[(1, 0, 3)], [0, 3, 0, 0]);
+    let g = tally(&[(2, 0, 1)], [0, 0, 0, 0]);
+    let a_g = tally(&[(1, 0, 1), (2, 0, 1)], [0, 1, 0, 0]);
+    let a_a_g = tally(&[(1, 0, 2), (2, 0, 1)], [0, 2, 0, 0]);
+    vec![
+        // What is dropped is taken off.
+        accepts("tally: A, G; INVVPID 1, VPID 5", ROOT, [A, G].concat(), invvpid(1, 5, 0), 1, G).counts(a_g, g),
+        accepts("tally: A, G; INVEPT 2", ROOT, [A, G].concat(), invept(2, 0, 0), 1, A).counts(a_g, a),
+        accepts("tally: A twice; INVVPID 1, VPID 5", ROOT, [A, A].concat(), invvpid(1, 5, 0), 2, NONE).counts(a_a, none),
+        accepts("tally: A; type 0, address 12346000h", ROOT, A, invvpid(0, 5, 0x12346000), 0, A).leaves(a),
+        accepts("tally: INVEPT 2, kind 6, span 3", ROOT, combined_structure(5, 4095, 3, 0), invept(2, 0, 0), 1, NONE).counts(tally(&[(6, 3, 1)], [0, 0, 0, 1]), none),
+        accepts("tally: EPT violation, kind 5, span 3, and G", EPT_GUEST, [&guest_physical_structure(3, 0)[..], &G].concat(), violation(0x11000, 0, 0), 1, G).counts(tally(&[(2, 0, 1), (5, 3, 1)], [0, 0, 0, 0]), g),
+        accepts("tally: MOV to CR3, the new PCID's alone", GUEST, [&A[..], &linear(5, 2, 0, 1, 0), &linear_structure(5, 2, 1, 0)].concat(), mov_to_cr3(2), 2, A).then(at(2, 0, 2, 5, 0, 0)).counts(tally(&[(1, 0, 1), (1, 1, 1), (4, 1, 1)], [0, 1, 2, 0]), a),
+        accepts("tally: reset", ROOT, [&A[..], &G, &combined(5, 2, 1, 2, 0)].concat(), RESET, 3, NONE).then(OUTSIDE).counts(tally(&[(1, 0, 1), (2, 0, 1), (3, 2, 1)], [0, 1, 1, 0]), none),
+        accepts("tally: reset, an empty table", ROOT, NONE, RESET, 0, NONE).then(OUTSIDE).leaves(none),
+        // What is created is added.
+        accepts("tally: creation of A", GUEST, A, A, 0, [A, A].concat()).counts(a, a_a),
+        accepts("tally: creation of G", EPT_GUEST, A, G, 0, [A, G].concat()).counts(a, a_g),
+        accepts("tally: creation of kind 3, span 2", EPT_GUEST, G, combined(5, 1, 0, 2, 0), 0, [&G[..], &combined(5, 1, 0, 2, 0)].concat()).counts(g, tally(&[(2, 0, 1), (3, 2, 1)], [0, 1, 0, 0])),
+        accepts("tally: creation of kind 4, span 3", GUEST, NONE, linear_structure(5, 1, 3, 0), 0, linear_structure(5, 1, 3, 0)).counts(none, tally(&[(4, 3, 1)], [0, 1, 0, 0])),
+        accepts("tally: creation of kind 5, span 3", EPT_GUEST, G, guest_physical_structure(3, 0), 0, [&G[..], &guest_physical_structure(3, 0)].concat()).counts(g, tally(&[(2, 0, 1), (5, 3, 1)], [0, 0, 0, 0])),
+        accepts("tally: creation of kind 6, span 1", EPT_GUEST, NONE, combined_structure(5, 1, 1, 0), 0, combined_structure(5, 1, 1, 0)).counts(none, tally(&[(6, 1, 1)], [0, 1, 0, 0])),
+        // A global record counts under its own PCID, and not under the current one.
+        accepts("tally: creation of a global", GUEST, NONE, linear(5, 1, 1, 0, 7), 0, linear(5, 1, 1, 0, 7)).counts(none, tally(&[(1, 0, 1)], [0, 1, 0, 0])),
+        accepts("tally: INVLPG, a global of another PCID", GUEST, [&linear(5, 2, 1, 0, 0x12345)[..], &linear(5, 1, 0, 0, 7)].concat(), invlpg(0x12345678), 1, linear(5, 1, 0, 0, 7)).counts(tally(&[(1, 0, 2)], [0, 1, 1, 0]), a),
+        refuses("tally: a global under the current PCID", GUEST, linear(5, 2, 1, 0, 0x12345), invlpg(0), 13).leaves(a),
+        refuses("tally: a global under no PCID", GUEST, linear(5, 2, 1, 0, 0x12345), invlpg(0), 13).leaves(tally(&[(1, 0, 1)], [0, 0, 0, 0])),
+        // Kinds 2 and 5 count under no PCID.
+        refuses("tally: G under PCID 0", ROOT, G, invvpid(1, 5, 0), 13).leaves(tally(&[(2, 0, 1)], [1, 0, 0, 0])),
+        refuses("tally: kind 5 under PCID 0", ROOT, guest_physical_structure(1, 0), invvpid(1, 5, 0), 13).leaves(tally(&[(5, 1, 1)], [1, 0, 0, 0])),
+        // Kinds 7 to 10 have the rows of kinds 1, 3, 4 and 6 (Ask 12).
+        accepts("tally: kinds 7 and 8; INVVPID 3", wide(57, ROOT), [linear_57(5, 1, 1, 1, 0), combined_57(5, 2, 0, 2, 0)].concat(), invvpid(3, 5, 0), 1, linear_57(5, 1, 1, 1, 0)).counts(tally(&[(1, 1, 1), (3, 2, 1)], [0, 1, 1, 0]), tally(&[(1, 1, 1)], [0, 1, 0, 0])),
+        accepts("tally: kinds 9 and 10, span 4; INVEPT 2", wide(57, ROOT), [linear_structure_57(5, 1, 4, 0), combined_structure_57(5, 2, 4, 1 << 36)].concat(), invept(2, 0, 0), 1, linear_structure_57(5, 1, 4, 0)).counts(tally(&[(4, 4, 1), (6, 4, 1)], [0, 1, 1, 0]), tally(&[(4, 4, 1)], [0, 1, 0, 0])),
+        accepts("tally: creation of kind 7", wide(57, GUEST), G, linear_57(5, 1, 0, 0, 1 << 44), 0, [&G[..], &linear_57(5, 1, 0, 0, 1 << 44)].concat()).counts(g, a_g),
+        accepts("tally: creation of kind 8", wide(57, EPT_GUEST), NONE, combined_57(5, 1, 1, 1, 0), 0, combined_57(5, 1, 1, 1, 0)).counts(none, tally(&[(3, 1, 1)], [0, 1, 0, 0])),
+        accepts("tally: creation of kind 9, span 4", wide(57, GUEST), NONE, linear_structure_57(5, 1, 4, 0), 0, linear_structure_57(5, 1, 4, 0)).counts(none, tally(&[(4, 4, 1)], [0, 1, 0, 0])),
+        accepts("tally: creation of kind 10, span 4", wide(57, EPT_GUEST), NONE, combined_structure_57(5, 1, 4, 0), 0, combined_structure_57(5, 1, 4, 0)).counts(none, tally(&[(6, 4, 1)], [0, 1, 0, 0])),
+        refuses("tally: kind 8 in the row of kind 2", wide(57, ROOT), combined_57(5, 1, 0, 0, 0), RESET, 13).leaves(tally(&[(2, 0, 1)], [0, 1, 0, 0])),
+        refuses("tally: kind 9, span 4, under span 3", wide(57, ROOT), linear_structure_57(5, 1, 4, 0), RESET, 13).leaves(tally(&[(4, 3, 1)], [0, 1, 0, 0])),
+        // 13: every count is looked at.
+        refuses("tally: one more of kind 1", ROOT, [A, G].concat(), invvpid(1, 5, 0), 13).leaves(tally(&[(1, 0, 2), (2, 0, 1)], [0, 1, 0, 0])),
+        refuses("tally: one less of kind 2", ROOT, [A, G].concat(), invvpid(1, 5, 0), 13).leaves(a),
+        refuses("tally: one more of PCID 1", ROOT, [A, G].concat(), invvpid(1, 5, 0), 13).leaves(tally(&[(1, 0, 1), (2, 0, 1)], [0, 2, 0, 0])),
+        refuses("tally: one less of PCID 1", ROOT, [A, G].concat(), invvpid(1, 5, 0), 13).leaves(tally(&[(1, 0, 1), (2, 0, 1)], [0, 0, 0, 0])),
+        refuses("tally: one more of PCID 4,095", ROOT, [A, G].concat(), invvpid(1, 5, 0), 13).leaves(tally(&[(1, 0, 1), (2, 0, 1)], [0, 1, 0, 1])),
+        refuses("tally: a count moved between PCIDs", ROOT, A, invvpid(1, 5, 0), 13).leaves(tally(&[(1, 0, 1)], [0, 0, 1, 0])),
+        refuses("tally: a count under another span", ROOT, A, invvpid(1, 5, 0), 13).leaves(tally(&[(1, 1, 1)], [0, 1, 0, 0])),
+        refuses("tally: two rows swapped", ROOT, [A, A, G].concat(), invvpid(1, 5, 0), 13).leaves(tally(&[(1, 0, 1), (2, 0, 2)], [0, 2, 0, 0])),
+        refuses("tally: kind 1, span 3", ROOT, A, invvpid(1, 5, 0), 13).leaves(tally(&[(1, 0, 1), (1, 3, 1)], [0, 1, 0, 0])),
+        refuses("tally: kind 4, span 0", ROOT, A, invvpid(1, 5, 0), 13).leaves(tally(&[(1, 0, 1), (4, 0, 1)], [0, 1, 0, 0])),
+        refuses("tally: kind 6, span 4, at 48", ROOT, A, invvpid(1, 5, 0), 13).leaves(tally(&[(1, 0, 1), (6, 4, 1)], [0, 1, 0, 0])),
+        refuses("tally: 65,535 of kind 1", ROOT, A, invvpid(1, 5, 0), 13).leaves(tally(&[(1, 0, 65_535)], [0, 1, 0, 0])),
+        refuses("tally: 65,535 of PCID 1", ROOT, A, invvpid(1, 5, 0), 13).leaves(tally(&[(1, 0, 1)], [0, 65_535, 0, 0])),
+        refuses("tally: 65,535 of kind 1 and a creation", GUEST, NONE, A, 13).leaves(tally(&[(1, 0, 65_535)], [0, 65_535, 0, 0])),
+        refuses("tally: the counts of the new table", GUEST, G, A, 13).leaves(a_g),
+        refuses("tally: a count and an empty table", ROOT, NONE, RESET, 13).leaves(a),
+        refuses("tally: no counts", ROOT, A, RESET, 13).leaves(none),
+        // 1 to 4 go before 13.
+        refuses("tally: N = 53 before 13", root_of_width(53), A, RESET, 1).leaves(none),
+        refuses("tally: place 3 before 13", at(0, 0, 3, 0, 0, 0), A, RESET, 1).leaves(none),
+        refuses("tally: 47,105 bytes before 13", ROOT, LONG, RESET, 2).leaves(a),
+        refuses("tally: a cut record before 13", ROOT, &A[..16], RESET, 3).leaves(a),
+        refuses("tally: an empty event before 13", ROOT, A, NONE, 4).leaves(none),
+        refuses("tally: PCID 4,096 in an event before 13", GUEST, A, exit(4096), 4).leaves(a_g),
+        // 13 goes before 5 to 12, each of which leaves a tally that matches.
+        refuses("tally: 13 before 5", OUTSIDE, A, invvpid(1, 5, 0), 13).leaves(none),
+        refuses("tally: INVVPID outside VMX", OUTSIDE, A, invvpid(1, 5, 0), 5).leaves(a),
+        refuses("tally: 13 before 6", GUEST, A, invvpid(1, 5, 0), 13).leaves(none),
+        refuses("tally: INVVPID in a guest", GUEST, A, invvpid(1, 5, 0), 6).leaves(a),
+        refuses("tally: 13 before 7", at(1, 3, 2, 5, 0, 0), A, invlpg(0), 13).leaves(none),
+        refuses("tally: INVLPG at CPL 3", at(1, 3, 2, 5, 0, 0), A, invlpg(0), 7).leaves(a),
+        refuses("tally: 13 before 8", ROOT, A, invvpid(4, 5, 0), 13).leaves(none),
+        refuses("tally: type 4", ROOT, A, invvpid(4, 5, 0), 8).leaves(a),
+        refuses("tally: 13 with no rule of the EPTP", ROOT, G, invept(1, 0x123456709E, 0), 13).leaves(none),
+        refuses("tally: INVEPT 1, bit 7", ROOT, G, invept(1, 0x123456709E, 0), 8).by(4).leaves(g),
+        refuses("tally: 13 before 9", ROOT, A, [22], 13).leaves(none),
+        refuses("tally: VMXON in root", ROOT, A, [22], 9).leaves(a),
+        refuses("tally: 13 before 10", ROOT, A, entry(1, 0, 0, 0, 1, 0), 13).leaves(none),
+        refuses("tally: entry with VPID 0 enabled", ROOT, A, entry(1, 0, 0, 0, 1, 0), 10).leaves(a),
+        refuses("tally: 13 before 11", ROOT, A, A, 13).leaves(a_a),
+        refuses("tally: creation of A in root", ROOT, A, A, 11).leaves(a),
+        refuses("tally: 13 before 12", GUEST, [A, A, A].concat(), A, 13).leaves(a_a_g),
+        refuses("tally: no room for a creation", GUEST, [A, A, A].concat(), A, 12).leaves(a_a_a),
+    ]
+}
+
+/// Ask 7's fresh counts, a row for each.
+pub fn counts() -> Vec<Count> {
+    let row = |name, linear_width, table: &[u8], lent, answer, counts| Count {
+        name,
+        linear_width,
+        table: table.to_vec(),
+        lent,
+        answer,
+        counts,
+    };
+    let none = tally(&[], [0, 0, 0, 0]);
+    let untouched = tally(&[], [7, 7, 7, 7]);
+    let a = tally(&[(1, 0, 1)], [0, 1, 0, 0]);
+    let six = [
+        &A[..],
+        &G,
+        &combined(5, 2, 1, 2, 0),
+        &linear_structure(6, 4095, 3, 0),
+        &guest_physical_structure(3, 0),
+        &combined_structure(7, 1, 1, 0),
+    ];
+    let six_counts = tally(
+        &[
+            (1, 0, 1),
+            (2, 0, 1),
+            (3, 2, 1),
+            (4, 3, 1),
+            (5, 3, 1),
+            (6, 1, 1),
+        ],
+        [0, 2, 1, 1],
+    );
+    let wide_six = [
+        &linear_57(5, 4095, 1, 0, 1 << 44)[..],
+        &G,
+        &combined_57(5, 2, 0, 1, 0),
+        &linear_structure_57(6, 0, 4, 0),
+        &guest_physical_structure(2, 0),
+        &combined_structure_57(7, 2, 4, 1 << 36),
+    ];
+    let wide_six_counts = tally(
+        &[
+            (1, 0, 1),
+            (2, 0, 1),
+            (3, 1, 1),
+            (4, 4, 1),
+            (5, 2, 1),
+            (6, 4, 1),
+        ],
+        [1, 0, 2, 1],
+    );
+    vec![
+        row("count: all kinds", 48, &six.concat(), 4096, 0, six_counts),
+        row(
+            "count: A twice",
+            48,
+            &[A, A].concat(),
+            4096,
+            0,
+            tally(&[(1, 0, 2)], [0, 2, 0, 0]),
+        ),
+        row("count: nothing", 48, &NONE, 4096, 0, none),
+        row(
+            "count: all kinds at 57",
+            57,
+            &wide_six.concat(),
+            4096,
+            0,
+            wide_six_counts,
+        ),
+        row("count: nothing at 57", 57, &NONE, 4096, 0, none),
+        row("count: width 56 is 48", 56, &A, 4096, 0, a),
+        row("count: A at 57", 57, &A, 4096, 3, untouched),
+        row(
+            "count: kind 7 at 48",
+            48,
+            &linear_57(5, 1, 0, 0, 0),
+            4096,
+            3,
+            untouched,
+        ),
+        row("count: a cut record", 48, &A[..16], 4096, 3, untouched),
+        row(
+            "count: a cut record behind A",
+            48,
+            &[&A[..], &G[..16]].concat(),
+            4096,
+            3,
+            untouched,
+        ),
+        row("count: 47,105 bytes", 48, &LONG, 4096, 2, untouched),
+        row("count: 4,095 lent", 48, &A, 4095, 13, untouched),
+        row("count: none lent", 48, &NONE, 0, 13, untouched),
+        row("count: 3 before 13", 48, &A[..16], 4095, 3, untouched),
     ]
 }
 

@@ -1,17 +1,25 @@
 //! A card as the test program reads it, and the line that it prints.
 //!
 //! A card in `stdin` is the name's length (1 byte), the table's (2), a mode (0 step, 1 linear and 2
-//! guest-physical lookup, 3 reason, 4 converter), the context as nine 8-byte numbers (capability, N,
-//! linear width, PCID, CPL, place, VPID, EPT, EP4TA; all 0 for the converter), the length of the event or question (2), then name, table, and the
-//! event, or for a lookup the address and k (8 bytes each). All numbers are little-endian.
+//! guest-physical lookup, 3 reason, 4 converter, 5 step beside a tally, 6 fresh count), the context
+//! as nine 8-byte numbers (capability, N, linear width, PCID, CPL, place, VPID, EPT, EP4TA; all 0 for
+//! the converter, and all but the linear width for a fresh count), the length of what follows the
+//! table (2), then name, table, and the event. A lookup has the address and k (8 bytes each) in its
+//! place. A step beside a tally has before the event the thirty counts by kind and span, row by row,
+//! and four times a PCID and its count (2 bytes each); a fresh count has four PCIDs and of how many
+//! the counts are lent (2 bytes each). All numbers are little-endian.
 
-use crate::cards::{self, Context};
+use crate::cards::{self, Context, Step, Tally};
 use common::{fields, put};
 use std::fmt::Write;
 
 /// The room of a card's new buffer, and what it is full of.
 const ROOM: usize = 64;
 const FILL: u8 = 0xEE;
+
+/// The PCIDs that have a count, and the count of each that a fresh count is lent.
+const PCID_COUNT: u64 = 4096;
+const LENT: u64 = 7;
 
 /// The test program's input, and what it prints on it.
 pub struct Files {
@@ -32,19 +40,49 @@ pub fn files() -> Files {
             &step.table,
             &step.event,
         );
-        let mut buffer = step.new.clone();
-        buffer.resize(ROOM, FILL);
-        let after: Vec<String> = step.after.iter().map(u64::to_string).collect();
+        let _ = writeln!(stdout, "{} {}", reported(&step), buffer(&step.new));
+    }
+    for counted in cards::counted_steps() {
+        let step = &counted.step;
+        card(
+            &mut stdin,
+            step.name,
+            5,
+            &step.context,
+            &step.table,
+            &[given(&counted.given), step.event.clone()].concat(),
+        );
         let _ = writeln!(
             stdout,
-            "{}: {} {} {} {} {} {}",
-            step.name,
-            step.answer,
-            step.rule,
-            step.dropped,
-            step.new.len(),
-            after.join(" "),
-            digits(&buffer)
+            "{} {} {}",
+            reported(step),
+            counts(&counted.left, 0),
+            buffer(&step.new)
+        );
+    }
+    for count in cards::counts() {
+        let mut context = [0; 9];
+        context[2] = count.linear_width;
+        let [p, q, r, s] = count.counts.pcids.map(|(pcid, _)| (pcid, 2));
+        card(
+            &mut stdin,
+            count.name,
+            6,
+            &context,
+            &count.table,
+            &fields(&[p, q, r, s, (count.lent, 2)]),
+        );
+        // A refusal leaves the other counts too.
+        let others = match count.answer {
+            0 => 0,
+            _ => LENT * (PCID_COUNT - 4),
+        };
+        let _ = writeln!(
+            stdout,
+            "{}: {} {} ",
+            count.name,
+            count.answer,
+            counts(&count.counts, others)
         );
     }
     for lookup in cards::lookups() {
@@ -84,18 +122,67 @@ pub fn files() -> Files {
     }
     for widening in cards::widenings() {
         card(&mut stdin, widening.name, 4, &[0; 9], &widening.table, &[]);
-        let mut buffer = widening.new.clone();
-        buffer.resize(ROOM, FILL);
         let _ = writeln!(
             stdout,
             "{}: {} {} {}",
             widening.name,
             widening.answer,
             widening.new.len(),
-            digits(&buffer)
+            buffer(&widening.new)
         );
     }
     Files { stdin, stdout }
+}
+
+/// A step's name and what it reports.
+fn reported(step: &Step) -> String {
+    format!(
+        "{}: {} {} {} {} {}",
+        step.name,
+        step.answer,
+        step.rule,
+        step.dropped,
+        step.new.len(),
+        numbers(&step.after)
+    )
+}
+
+/// A tally as a card has it.
+fn given(tally: &Tally) -> Vec<u8> {
+    let mut bytes = Vec::new();
+    for count in tally.kinds.as_flattened() {
+        put(&mut bytes, *count, 2);
+    }
+    for (pcid, count) in tally.pcids {
+        put(&mut bytes, pcid, 2);
+        put(&mut bytes, count, 2);
+    }
+    bytes
+}
+
+/// A tally as it is printed: the counts by kind and span, those of the four PCIDs, and the sum of
+/// all, the counts of the other PCIDs among them.
+fn counts(tally: &Tally, others: u64) -> String {
+    let pcids = tally.pcids.map(|(_, count)| count);
+    format!(
+        "{} {} {}",
+        numbers(tally.kinds.as_flattened()),
+        numbers(&pcids),
+        pcids.iter().sum::<u64>() + others
+    )
+}
+
+/// Numbers with a space between them.
+fn numbers(numbers: &[u64]) -> String {
+    let words: Vec<String> = numbers.iter().map(u64::to_string).collect();
+    words.join(" ")
+}
+
+/// The new buffer behind a table, in hexadecimal digits.
+fn buffer(new: &[u8]) -> String {
+    let mut buffer = new.to_vec();
+    buffer.resize(ROOM, FILL);
+    digits(&buffer)
 }
 
 /// Appends a card.

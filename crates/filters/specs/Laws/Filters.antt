@@ -21,7 +21,7 @@ use Rattle.laws.specs.Buffers.{put-nil}
 use Rattle.laws.specs.Mappings.{Valid, valid-starts, starts-parts}
 use Rattle.laws.specs.Tables.{records-nil, only-true, only-false, only-all, only-none, only-agree, records-valid, whole-joined, length-joined-only, length-joined-records, Next}
 use Rattle.filters.specs.declared.Filtered.{Filtered}
-use Rattle.filters.specs.Filters.{filtered, scoped, Filters}
+use Rattle.filters.specs.Filters.{left, filtered, scoped, Filters}
 
 module _ (test : Mapping → Bool) where
   pub length-filtered : (t : List ℕ) → length (filtered test t) ≤ length t
@@ -66,42 +66,51 @@ module _ (test : Mapping → Bool) where
         rw (next .split, only-true (λ r. test (mapping r)) (take n (drop at t)) (records (drop (at + n) t)) held)
 
   -- a test that holds of no record leaves the table
-  pub filters-all : (t buffer : List ℕ) → whole t ≡ true → ((m : Mapping) → test m ≡ false) → {told : ℕ} {after : List ℕ}
-      → told ≡ length t → after ≡ put 0 t buffer → Filters test t buffer (record { length = told; dropped = 0 }) after
-  unfolding filtered scoped count
-  filters-all t buffer w out size made =
-      let all : filtered test t ≡ t =
-      ap joined (only-all (λ r. not (test (mapping r))) (records t) (λ r. rw (out (mapping r)))) ∙ whole-joined t w in
-      record {
-        size = size ∙ ap length (sym all);
-        dropped = sym (ap length (only-none (λ r. test (mapping r)) (records t) (λ r. out (mapping r))));
-        buffer = rw all made;
-      }
+  module _ (out : (m : Mapping) → test m ≡ false) where
+    pub left-all : (t : List ℕ) → left test t ≡ records t
+    left-all t = only-all (λ r. not (test (mapping r))) (records t) (λ r. rw (out (mapping r)))
 
--- a test that holds of every record leaves none
-pub filters-none : (test : Mapping → Bool) (t buffer : List ℕ) {n : ℕ} → ((m : Mapping) → test m ≡ true) → n ≡ length (records t)
-    → Filters test t buffer (record { length = 0; dropped = n }) buffer
-unfolding filtered scoped count joined
-filters-none test t buffer all is =
-    let none : filtered test t ≡ [] = ap joined (only-none (λ r. not (test (mapping r))) (records t) (λ r. rw (all (mapping r)))) in
-    record {
-      size = sym (ap length none);
-      dropped = is ∙ sym (ap length (only-all (λ r. test (mapping r)) (records t) (λ r. all (mapping r))));
-      buffer = rw none (sym (put-nil 0 buffer));
-    }
+    pub filters-all : (t buffer : List ℕ) → whole t ≡ true → {told : ℕ} {after : List ℕ}
+        → told ≡ length t → after ≡ put 0 t buffer → Filters test t buffer (record { length = told; dropped = 0 }) after
+    unfolding filtered scoped count
+    filters-all t buffer w size made =
+        let all : filtered test t ≡ t = ap joined (left-all t) ∙ whole-joined t w in
+        record {
+          size = size ∙ ap length (sym all);
+          dropped = sym (ap length (only-none (λ r. test (mapping r)) (records t) (λ r. out (mapping r))));
+          buffer = rw all made;
+        }
+
+  -- a test that holds of every record leaves none
+  module _ (all : (m : Mapping) → test m ≡ true) where
+    pub left-none : (t : List ℕ) → left test t ≡ []
+    left-none t = only-none (λ r. not (test (mapping r))) (records t) (λ r. rw (all (mapping r)))
+
+    pub filters-none : (t buffer : List ℕ) {n : ℕ} → n ≡ length (records t) → Filters test t buffer (record { length = 0; dropped = n }) buffer
+    unfolding filtered scoped count joined
+    filters-none t buffer is =
+        let none : filtered test t ≡ [] = ap joined (left-none t) in
+        record {
+          size = sym (ap length none);
+          dropped = is ∙ sym (ap length (only-all (λ r. test (mapping r)) (records t) (λ r. all (mapping r))));
+          buffer = rw none (sym (put-nil 0 buffer));
+        }
 
 -- two tests that agree on the mappings of known kinds filter alike
-pub filters-agree : (test other : Mapping → Bool) (t : List ℕ) → ((m : Mapping) → mapping-kind (m .kind) ≡ true → test m ≡ other m)
-    → {buffer after : List ℕ} {told : Filtered} → Filters test t buffer told after → Filters other t buffer told after
-unfolding filtered scoped count mapping
-filters-agree test other t agree f =
-    let same : (r : List ℕ) → Valid r → test (mapping r) ≡ other (mapping r) =
-    λ r valid. agree (mapping r) (starts-parts r (valid-starts r valid) .held .known) in
-    let kept : filtered test t ≡ filtered other t =
-    ap joined (only-agree (λ r. not (test (mapping r))) (λ r. not (other (mapping r))) (records-valid t) (λ r valid. ap not (same r valid))) in
-    let gone : scoped test t ≡ scoped other t =
-    ap length (only-agree (λ r. test (mapping r)) (λ r. other (mapping r)) (records-valid t) same) in
-    record { size = f .size ∙ ap length kept; dropped = f .dropped ∙ gone; buffer = rw (← kept) (f .buffer) }
+module _ (test other : Mapping → Bool) (agree : (m : Mapping) → mapping-kind (m .kind) ≡ true → test m ≡ other m) (t : List ℕ) where
+  same : (r : List ℕ) → Valid r → test (mapping r) ≡ other (mapping r)
+  unfolding mapping
+  same r valid = agree (mapping r) (starts-parts r (valid-starts r valid) .held .known)
+
+  pub left-agree : left test t ≡ left other t
+  left-agree = only-agree (λ r. not (test (mapping r))) (λ r. not (other (mapping r))) (records-valid t) (λ r valid. ap not (same r valid))
+
+  pub filters-agree : {buffer after : List ℕ} {told : Filtered} → Filters test t buffer told after → Filters other t buffer told after
+  unfolding filtered scoped count
+  filters-agree f =
+      let kept : filtered test t ≡ filtered other t = ap joined left-agree in
+      let gone : scoped test t ≡ scoped other t = ap length (only-agree (λ r. test (mapping r)) (λ r. other (mapping r)) (records-valid t) same) in
+      record { size = f .size ∙ ap length kept; dropped = f .dropped ∙ gone; buffer = rw (← kept) (f .buffer) }
 
 -- the new table and the dropped count of an accepted event, by the event that was read
 module _ (c : Context) (t raw : List ℕ) {e : Event} (read : e ≡ event raw) where

@@ -67,7 +67,7 @@ module _ (s : State) (a b e : List ℕ) (r : Step) (new : List ℕ)
 
     pub run-at-after : run-at (state-after s r) (cond (s .first) a new) (cond (s .first) new b) ≡ run-after (run-at s a b) e
     unfolding run-at state-after run-after run-written
-    run-at-after = rw (told-answer, ← told, ← wrote) (go (s .first) (eqb (r .answer) 0) context-kept)
+    run-at-after = rw (← told, ← wrote) (go (s .first) (eqb (r .answer) 0) context-kept)
       where
         go : (first accepted : Bool) → (accepted ≡ false → r .context ≡ s .context)
             → run-at

@@ -42,14 +42,14 @@ pub run-after-accepted : (s : Run) (e : List ℕ) → run-answer s e ≡ 0
       front = put 0 (new-table (s .context) (s .table) e) (s .back);
       back = s .front;
     }
-unfolding run-after run-written written accepted-step
+unfolding run-after run-answer run-written written accepted-step
 run-after-accepted s e h =
     let z : answer (s .context) (s .table) e (length (s .back)) ≡ 0 = sym (run-answer-is s e) ∙ h in
     rw (h, stepped-accepted (s .context) (s .table) e (length (s .back)) z, z, take-put-front)
 
 -- a refused event leaves the run as it was
 pub run-after-refused : (s : Run) (e : List ℕ) → (run-answer s e ≡ 0 → ⊥) → run-after s e ≡ s
-unfolding run-after run-written written refused-step
+unfolding run-after run-answer run-written written refused-step
 run-after-refused s e h =
     let refused : answer (s .context) (s .table) e (length (s .back)) ≡ 0 → ⊥ = λ z. h (run-answer-is s e ∙ z) in
     rw (ne-eqb (run-answer s e) 0 h, stepped-refused (s .context) (s .table) e (length (s .back)) refused, ne-eqb (answer (s .context) (s .table) e (length (s .back))) 0 refused)
@@ -73,13 +73,13 @@ pub run-report-accepted : (s : Run) (e : List ℕ) → run-answer s e ≡ 0
       dropped = dropped-count (s .context) (s .table) e;
       context = next-context (s .context) (event e);
     }
-unfolding run-report run-answer accepted-step
+unfolding run-report accepted-step
 run-report-accepted s e h =
-    rw (stepped-accepted (s .context) (s .table) e (length (s .back)) (sym (run-answer-is s e) ∙ h), h)
+    rw (stepped-accepted (s .context) (s .table) e (length (s .back)) (sym (run-answer-is s e) ∙ h))
 
 pub run-report-refused : (s : Run) (e : List ℕ) → (run-answer s e ≡ 0 → ⊥)
     → run-report s e ≡ record { answer = run-answer s e; rule = rule-with (s .context) e (run-answer s e); dropped = 0; context = s .context }
-unfolding run-report refused-step
+unfolding run-report run-answer refused-step
 run-report-refused s e h =
     let refused = stepped-refused (s .context) (s .table) e (length (s .back)) (λ z. h (run-answer-is s e ∙ z)) in
     let rule = ap (λ (x : Step). x .rule) refused ∙ ap (rule-with (s .context) e) (sym (run-answer-is s e)) in

@@ -1,6 +1,6 @@
 -- The walk over a table, record by record: where it stands, and what each turn does.
-use Prim.Native.Nat.{ℕ, zero, suc, _+_, _-_, _≤_, _<_}
-use mathlib.Core.Bool.{Bool, true, false, not, _&&_, and-true, and-false, false≢true}
+use Prim.Native.Nat.{ℕ, zero, suc, _+_, _-_, _≤_}
+use mathlib.Core.Bool.{Bool, true, false, and-true, and-false, false≢true}
 use mathlib.Core.Path.{_≡_, refl, sym, ap, _∙_}
 use mathlib.Core.List.{List}
 use native.Mathlib.Omega.{arith}
@@ -71,12 +71,22 @@ module _ {w : ℕ} {t : List ℕ} {at k : ℕ} (walked : Walked w t at k) where
         go (suc m) is true other = walk-other m is other
         go (suc m) is false own = absurd (omega (arith, length-at-own w (drop at t) own, length-read, is, stops))
 
+    own-width : (n ≡ 0 → ⊥) → other-width w (kind-of (drop at t)) ≡ false
+    own-width some = go (other-width w (kind-of (drop at t))) refl
+      where
+        go : (b : Bool) → other-width w (kind-of (drop at t)) ≡ b → other-width w (kind-of (drop at t)) ≡ false
+        go true other = absurd (some (sym length-read ∙ length-at-other w (drop at t) other))
+        go false own = own
+
+    -- a record of n bytes stands there
+    pub walk-read : (n ≡ 0 → ⊥) → record-length (drop at t) ≡ n
+    walk-read some = sym (length-at-own w (drop at t) (own-width some)) ∙ length-read
+
     pub walk-on : (n ≡ 0 → ⊥) → Walked w t (at + n) (k + 1)
     unfolding of-width
     walk-on some =
-        let own = own-width in
-        let long : record-length (drop at t) ≡ n = sym (length-at-own w (drop at t) own) ∙ length-read in
-        let next : Next t at n = next-of-length t at n long (omega arith) in
+        let own = own-width some in
+        let next : Next t at n = next-of-length t at n (walk-read some) (omega arith) in
         let same : kind-of (take n (drop at t)) ≡ kind-of (drop at t) = kind-of-take n (drop at t) some in
         let first = length-joined-cons (take n (drop at t)) (records (drop (at + n) t)) in
         let bytes = rw (next .split) at (walked .bytes) in
@@ -88,10 +98,3 @@ module _ {w : ℕ} {t : List ℕ} {at k : ℕ} (walked : Walked w t at k) where
           number = omega arith;
           width = rw (next .split, same, own) at (walked .width);
         }
-      where
-        own-width : other-width w (kind-of (drop at t)) ≡ false
-        own-width = go (other-width w (kind-of (drop at t))) refl
-          where
-            go : (b : Bool) → other-width w (kind-of (drop at t)) ≡ b → other-width w (kind-of (drop at t)) ≡ false
-            go true other = absurd (some (sym length-read ∙ length-at-other w (drop at t) other))
-            go false own = own

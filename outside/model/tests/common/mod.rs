@@ -2,7 +2,8 @@
 //! document 01's tables, and short ways to ask.
 #![allow(dead_code)]
 
-use model::{step, tuned, Context, Place, Step, PROGRAM_CAPABILITY, TABLE_LIMIT};
+use model::{count, counted_step, step, tuned};
+use model::{Context, Place, Step, Tally, PROGRAM_CAPABILITY, TABLE_LIMIT};
 
 /// A: linear translation, VPID 5, PCID 1, span 0, page 12345h, frame ABCDEh.
 pub const A: [u8; 17] = [
@@ -202,7 +203,7 @@ pub fn without(context: Context, bit: u32) -> Context {
 }
 
 /// A step into a buffer of the limit: the plain one, which must agree with
-/// the tuned one.
+/// the tuned one, and with the counted ones given a tally that matches.
 pub fn run(context: &Context, table: &[u8], event: &[u8]) -> (Step, Vec<u8>) {
     run_into(context, table, event, TABLE_LIMIT)
 }
@@ -223,7 +224,48 @@ pub fn run_into(context: &Context, table: &[u8], event: &[u8], room: usize) -> (
     }
     assert!(rule == 0 || step.answer == 8 || step.answer == 10);
     new.truncate(step.length);
+    let tally = matching(context, table);
+    // More room than any event needs would only take time.
+    let room = room.min(table.len() + event.len() + 64);
+    let (counted, after, kept) = counted_into(context, &tally, table, event, room);
+    assert_eq!((counted, &kept), (step, &new));
+    if step.answer == 0 {
+        assert_eq!(after, matching(&step.context, &new));
+    }
     (step, new)
+}
+
+/// The fresh count of a table; all 0 for bytes that are no table.
+pub fn matching(context: &Context, table: &[u8]) -> Tally {
+    count(context.linear(), table).unwrap_or(Tally::empty())
+}
+
+/// A counted step into a buffer of any length: the plain one, which must agree
+/// with the tuned one. Hands back the tally after it and the new table; a
+/// refusal must leave the tally and all of the buffer.
+pub fn counted_into(
+    context: &Context,
+    tally: &Tally,
+    table: &[u8],
+    event: &[u8],
+    room: usize,
+) -> (Step, Tally, Vec<u8>) {
+    let mut new = vec![0xA5; room];
+    let mut other = new.clone();
+    let (mut after, mut pcids) = (tally.clone(), tally.pcids.clone());
+    let step = counted_step(context, &mut after, table, event, &mut new);
+    let fast = tuned::counted_step(context, tally.kinds, &mut pcids, table, event, &mut other);
+    assert_eq!((step, after.kinds), fast);
+    assert!(after.pcids == pcids && new == other);
+    assert!(new[step.length..].iter().all(|byte| *byte == 0xA5));
+    if step.answer != 0 {
+        let refused = Step::refused(step.answer, context);
+        let rule = step.rule;
+        assert_eq!(step, Step { rule, ..refused });
+        assert_eq!(&after, tally);
+    }
+    new.truncate(step.length);
+    (step, after, new)
 }
 
 /// The answer alone.

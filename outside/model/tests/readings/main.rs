@@ -9,6 +9,7 @@ mod ask_12;
 mod ask_2;
 mod ask_5;
 mod ask_6;
+mod ask_7;
 mod contexts;
 mod events;
 mod lookups;

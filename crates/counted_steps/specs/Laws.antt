@@ -1,0 +1,2 @@
+-- The laws of the step beside a tally.
+pub mod Steps

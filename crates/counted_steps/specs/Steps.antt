@@ -1,0 +1,50 @@
+-- Document 02, Ask 7: the step beside a tally.
+use Prim.Native.Nat.{ℕ}
+use mathlib.Core.Bool.{Bool, cond, not}
+use mathlib.Core.List.{List, [], _∷_, _++_}
+use lib.Dec.{eqb}
+use lib.ListN.{length}
+use Rattle.model.specs.declared.Context.{Context}
+use Rattle.model.specs.Buffers.{put}
+use Rattle.model.specs.Tables.{records}
+use Rattle.model.specs.Events.{event}
+use Rattle.model.specs.Answers.{first, valid-here, table-grounds, event-grounds, no-room}
+use Rattle.model.specs.Steps.{new-table, accepted-step, refusal, refused-step}
+use Rattle.tallies.specs.declared.KindCounts.{KindCounts}
+use Rattle.tallies.specs.Tallies.{kind-counts, pcid-counts, matching}
+use Rattle.counted_steps.specs.declared.CountedStep.{CountedStep}
+
+-- the grounds of a context, a tally, an old table, an event and the length of the new buffer: "A tally that doesn't
+-- match its old table is refused as answer 13, after 4 and before 5; document 01's lowest-number rule is amended there
+-- only."
+unfoldable pub counted-grounds : Context → List KindCounts → List ℕ → List ℕ → List ℕ → ℕ → List (ℕ × Bool)
+counted-grounds c kinds pcids t e room =
+    table-grounds c t
+    ++ ((4, not (valid-here c e)) ∷ (13, not (matching kinds pcids (records t))) ∷ [])
+    ++ event-grounds c (event e)
+    ++ ((12, no-room room t e) ∷ [])
+
+unfoldable pub counted-answer : Context → List KindCounts → List ℕ → List ℕ → List ℕ → ℕ → ℕ
+counted-answer c kinds pcids t e room = first (counted-grounds c kinds pcids t e room)
+
+-- "a refused step leaves the tally"; a refusal with no rule
+abbrev pub counted-refusal : ℕ → Context → List KindCounts → CountedStep
+counted-refusal answer c kinds = record { step = refusal answer 0 c; kinds = kinds }
+
+-- "After every accepted step each count equals a fresh count of the new table"
+unfoldable pub counted-stepped : Context → List KindCounts → List ℕ → List ℕ → List ℕ → ℕ → CountedStep
+counted-stepped c kinds pcids t e room =
+    let answer = counted-answer c kinds pcids t e room in
+    cond (eqb answer 0)
+    (record { step = accepted-step c t e; kinds = kind-counts (records (new-table c t e)) })
+    (record { step = refused-step answer c e; kinds = kinds })
+
+-- the counts by PCID after it
+unfoldable pub counted-pcids : Context → List KindCounts → List ℕ → List ℕ → List ℕ → ℕ → List ℕ
+counted-pcids c kinds pcids t e room =
+    cond (eqb (counted-answer c kinds pcids t e room) 0) (pcid-counts (records (new-table c t e))) pcids
+
+-- the new buffer after it
+unfoldable pub counted-written : Context → List KindCounts → List ℕ → List ℕ → List ℕ → List ℕ → List ℕ
+counted-written c kinds pcids t e buffer =
+    cond (eqb (counted-answer c kinds pcids t e (length buffer)) 0) (put 0 (new-table c t e) buffer) buffer

@@ -1,0 +1,2 @@
+-- The laws of counts that are carried over a step.
+pub mod Counts

@@ -1,0 +1,5 @@
+-- Laws of counts.
+pub mod Lists
+pub mod Counts
+pub mod Tallied
+pub mod Rows

@@ -1,0 +1,126 @@
+-- Document 02, Ask 7: "Keep a count of records for each of six kinds by four spans, and a count for each of the 4,096
+-- PCIDs over kinds 1, 3, 4 and 6". Ask 12: "Tally spans run to 4"; the new kinds are counted "in the same six rows".
+use Prim.Native.Nat.{ℕ, zero, suc, _+_, _*_, _-_, _≤_, _<_}
+use mathlib.Core.Bool.{Bool, true, false, cond, not, _&&_}
+use mathlib.Core.List.{List, [], _∷_}
+use mathlib.Core.Path.{_≡_}
+use lib.Dec.{eqb}
+use lib.ListN.{length, getD, set}
+use Rattle.model.specs.declared.Mapping.{Mapping}
+use Rattle.model.specs.Mappings.{mapping, Held, linear, guest-physical, structure-cache}
+use Rattle.model.specs.Tables.{count}
+use Rattle.tallies.specs.declared.KindCounts.{KindCounts}
+
+-- the values of a function at 0 up to, and not at, a number
+unfoldable pub tabulate : {A : Type 0} → ℕ → (ℕ → A) → List A
+tabulate zero f = []
+tabulate (suc n) f = f 0 ∷ tabulate n (λ i. f (suc i))
+
+-- the row of a kind: kinds 1 to 6 are rows 0 to 5, and kinds 7 to 10 have the rows of their 48-bit siblings
+unfoldable pub row-of : ℕ → ℕ
+row-of kind = cond (linear kind) 0 (cond (guest-physical kind) 1 2) + cond (structure-cache kind) 3 0
+
+-- a record is counted in a row under a span
+unfoldable pub of-row : ℕ → ℕ → List ℕ → Bool
+of-row row span r = eqb (row-of (mapping r .kind)) row && eqb (mapping r .span) span
+
+-- a record is counted under a PCID; a global one under its own
+unfoldable pub of-pcid : ℕ → List ℕ → Bool
+of-pcid pcid r = not (guest-physical (mapping r .kind)) && eqb (mapping r .pcid) pcid
+
+unfoldable pub kind-counts : List (List ℕ) → List KindCounts
+kind-counts rs = tabulate 6 (λ row. record { spans = tabulate 5 (λ span. count (of-row row span) rs) })
+
+unfoldable pub pcid-counts : List (List ℕ) → List ℕ
+pcid-counts rs = tabulate 4096 (λ pcid. count (of-pcid pcid) rs)
+
+-- two lists of counts are the same
+unfoldable pub same : List ℕ → List ℕ → Bool
+same [] [] = true
+same [] (y ∷ ys) = false
+same (x ∷ xs) [] = false
+same (x ∷ xs) (y ∷ ys) = eqb x y && same xs ys
+
+unfoldable pub same-kinds : List KindCounts → List KindCounts → Bool
+same-kinds [] [] = true
+same-kinds [] (y ∷ ys) = false
+same-kinds (x ∷ xs) [] = false
+same-kinds (x ∷ xs) (y ∷ ys) = same (x .spans) (y .spans) && same-kinds xs ys
+
+-- a tally matches some records: every count is theirs, the impossible ones too, and there are 4,096 PCIDs
+unfoldable pub matching : List KindCounts → List ℕ → List (List ℕ) → Bool
+matching kinds pcids rs = same-kinds kinds (kind-counts rs) && same pcids (pcid-counts rs)
+
+-- the cell of a record among the thirty counts of rows and spans, row by row
+unfoldable pub cell-of : Mapping → ℕ
+cell-of m = 5 * row-of (m .kind) + m .span
+
+-- the thirty counts of some records
+unfoldable pub cell-counts : List (List ℕ) → List ℕ
+cell-counts rs = tabulate 30 (λ cell. count (λ r. eqb (cell-of (mapping r)) cell) rs)
+
+-- so many more, or less, at a place
+unfoldable pub raised-by : ℕ → ℕ → List ℕ → List ℕ
+raised-by at n counts = set counts at (getD counts at 0 + n)
+
+unfoldable pub lowered-by : ℕ → ℕ → List ℕ → List ℕ
+lowered-by at n counts = set counts at (getD counts at 0 - n)
+
+-- one more, or one less
+abbrev pub raised : ℕ → List ℕ → List ℕ
+raised at counts = raised-by at 1 counts
+
+abbrev pub lowered : ℕ → List ℕ → List ℕ
+lowered at counts = lowered-by at 1 counts
+
+-- how often a record of a kind is counted by PCID
+unfoldable pub by-pcid : ℕ → ℕ
+by-pcid kind = cond (guest-physical kind) 0 1
+
+-- the counts with one record more, or one less
+unfoldable pub cells-with : Mapping → List ℕ → List ℕ
+cells-with m cells = raised (cell-of m) cells
+
+unfoldable pub cells-without : Mapping → List ℕ → List ℕ
+cells-without m cells = lowered (cell-of m) cells
+
+unfoldable pub pcids-with : Mapping → List ℕ → List ℕ
+pcids-with m pcids = cond (guest-physical (m .kind)) pcids (raised (m .pcid) pcids)
+
+unfoldable pub pcids-without : Mapping → List ℕ → List ℕ
+pcids-without m pcids = cond (guest-physical (m .kind)) pcids (lowered (m .pcid) pcids)
+
+-- the thirty counts, and those by PCID, are those of some records
+pub record Tallied (rs : List (List ℕ)) (xs ys : List ℕ) : Type 0 where
+  pub cells : xs ≡ cell-counts rs
+  pub pcids : ys ≡ pcid-counts rs
+
+-- so they are where records are counted, and else they stay
+pub record Carries (counting : Bool) (rs : List (List ℕ)) (cells pcids cells′ pcids′ : List ℕ) : Type 0 where
+  pub counted : counting ≡ true → Tallied rs cells′ pcids′
+  pub kept : counting ≡ false → (cells′ ≡ cells) × (pcids′ ≡ pcids)
+
+-- a held record can be counted: there is a place for it, and the count there is not at the end of its type
+pub record Countable (part cells pcids : List ℕ) : Type 0 where
+  pub held : Held part
+  pub long : length cells ≡ 30
+  pub place : cell-of (mapping part) < 30
+  pub few : getD cells (cell-of (mapping part)) 0 < 65535
+  pub pcid-place : mapping part .pcid < length pcids
+  pub pcid-few : getD pcids (mapping part .pcid) 0 < 65535
+
+-- a held record is counted
+pub record Counted (part cells pcids : List ℕ) : Type 0 where
+  pub held : Held part
+  pub long : length cells ≡ 30
+  pub place : cell-of (mapping part) < 30
+  pub some : 0 < getD cells (cell-of (mapping part)) 0
+  pub pcid-place : mapping part .pcid < length pcids
+  pub pcid-some : by-pcid (mapping part .kind) ≤ getD pcids (mapping part .pcid) 0
+
+-- the five counts from a place on, as a row; and all rows
+unfoldable pub row-from : List ℕ → ℕ → KindCounts
+row-from cells at = record { spans = tabulate 5 (λ span. getD cells (at + span) 0) }
+
+unfoldable pub rows-of : List ℕ → List KindCounts
+rows-of cells = tabulate 6 (λ row. row-from cells (5 * row))
