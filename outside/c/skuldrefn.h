@@ -434,9 +434,11 @@ typedef struct {
  * range has every event answered 1. The log is cut as skuldrefn_event_length
  * says.
  * log, log_length: the log; it is only read.
- * first, second: two buffers for tables, which hold the table in force in
- * turn. With 47,104 bytes each there is all the room that answer 12 allows;
- * with fewer, less.
+ * first, second: two buffers for tables; one of them holds the table in force.
+ * With 47,104 bytes or more each there is all the room that answer 12 allows,
+ * and an event that can drop nothing leaves the table where it is, with a
+ * creation behind it. With fewer there is less room, and each accepted event
+ * writes the table into the other buffer.
  * rows, rows_length: one row of 24 bytes for each event: its answer, its
  * dropped count, and the length of the table in force after it, 8 bytes each,
  * little-endian. Bytes past the last row stay as they were. 24 times

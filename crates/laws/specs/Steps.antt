@@ -14,15 +14,17 @@ use Rattle.model.specs.Buffers.{put}
 use Rattle.model.specs.Layouts.{kind-of, mapping-kind}
 use Rattle.model.specs.Tables.{limit, joined, records, whole, only, count}
 use Rattle.model.specs.Events.{event, valid-event}
-use Rattle.model.specs.Scopes.{next-context}
+use Rattle.model.specs.Mappings.{mapping}
+use Rattle.model.specs.Scopes.{has-scope, next-context}
 use Rattle.model.specs.Answers.{first, created, no-room, valid-table, table-grounds, answer, rule-with}
 use Rattle.model.specs.Steps.{in-scope, new-table, dropped-count, accepted-step, refusal, refused-step, stepped, written}
 use Rattle.laws.specs.Lists.{Every, none, more, every-head, every-tail, every-append}
 use Rattle.laws.specs.Mappings.{Valid}
-use Rattle.laws.specs.Tables.{count-append, count-split, joined-append, joined-one, every-only, records-valid, records-joined, joined-whole, length-joined-only, length-joined-records}
+use Rattle.laws.specs.Tables.{count-append, count-complement, count-split, joined-append, joined-one, only-all, only-none, every-only, records-valid, records-joined, joined-whole, whole-joined, length-joined-only, length-joined-records}
 use Rattle.laws.specs.Events.{creation-valid, creation-fields}
 use Rattle.laws.specs.Context.{linear-width-next}
-use Rattle.laws.specs.Answers.{OfWidth, first-zero, valid-table-parts, valid-table-made, Accepted}
+use Rattle.laws.specs.Answers.{OfWidth, first-zero, valid-table-parts, valid-table-made, Accepted, answer-room}
+use Rattle.laws.specs.Scopes.{out-of-scope}
 
 -- the bytes that an event adds: a creation's own, or none
 pub created-creation : (e : List ℕ) → mapping-kind (kind-of e) ≡ true → created e ≡ e
@@ -83,6 +85,15 @@ joined-creation e = go (mapping-kind (kind-of e))
     go true = joined-one e
     go false = refl
 
+-- an event adds one record at most
+pub length-creation : (e : List ℕ) → length (creation e) ≤ 1
+unfolding creation
+length-creation e = go (mapping-kind (kind-of e))
+  where
+    go : (b : Bool) → length (cond b (e ∷ []) []) ≤ 1
+    go true = omega arith
+    go false = omega arith
+
 pub creation-every-valid : (w : ℕ) (e : List ℕ) → valid-event w e ≡ true → Every Valid (creation e)
 unfolding creation
 creation-every-valid w e v = go (mapping-kind (kind-of e)) refl
@@ -122,6 +133,14 @@ count-new-table w c t e v p =
     rw (records-new-table w c t e v)
     (omega (arith, count-append p (only (λ r. not (in-scope c e r)) (records t)) (creation e), count-split p (λ r. in-scope c e r) (records t)))
 
+-- how many records the new table has
+pub length-records-new-table : (w : ℕ) (c : Context) (t e : List ℕ) → valid-event w e ≡ true
+    → length (records (new-table c t e)) ≡ (length (records t) - dropped-count c t e) + length (creation e)
+unfolding new-records dropped-count count
+length-records-new-table w c t e v =
+    rw (records-new-table w c t e v)
+    (omega (arith, length-append (only (λ r. not (in-scope c e r)) (records t)) (creation e), count-complement (λ r. in-scope c e r) (records t)))
+
 pub new-table-whole : (w : ℕ) (c : Context) (t e : List ℕ) → valid-event w e ≡ true → whole (new-table c t e) ≡ true
 new-table-whole w c t e v = rw new-table-joined (joined-whole (new-records-valid w c t e v))
 
@@ -141,6 +160,19 @@ length-new-table c t e =
     rw length-append
     (omega (arith, length-joined-only (λ r. not (in-scope c e r)) (records t), length-joined-records t))
 
+-- an event without a scope drops nothing
+module _ (c : Context) (t e : List ℕ) (none : has-scope c (event e) ≡ false) where
+  kept : (r : List ℕ) → not (in-scope c e r) ≡ true
+  kept r = rw (out-of-scope c (event e) none (mapping r))
+
+  pub new-table-unscoped : whole t ≡ true → new-table c t e ≡ t ++ created e
+  unfolding new-table
+  new-table-unscoped is = rw (only-all (λ r. not (in-scope c e r)) (records t) kept, whole-joined t is)
+
+  pub dropped-count-unscoped : dropped-count c t e ≡ 0
+  unfolding dropped-count count
+  dropped-count-unscoped = rw (only-none (λ r. in-scope c e r) (records t) (λ r. out-of-scope c (event e) none (mapping r)))
+
 -- a step, by its answer
 pub stepped-accepted : (c : Context) (t e : List ℕ) (room : ℕ) → answer c t e room ≡ 0 → stepped c t e room ≡ accepted-step c t e
 unfolding stepped
@@ -158,6 +190,11 @@ stepped-answer c t e room = go (eqb (answer c t e room) 0) refl
     go : (b : Bool) → eqb (answer c t e room) 0 ≡ b → stepped c t e room .answer ≡ answer c t e room
     go true q = rw q (sym (eqb-true (answer c t e room) 0 q))
     go false q = rw q
+
+-- room of the limit or more is all one
+pub stepped-room : (c : Context) (t e : List ℕ) (room : ℕ) → limit ≤ room → stepped c t e room ≡ stepped c t e limit
+unfolding stepped
+stepped-room c t e room h = rw (answer-room c t e room h)
 
 -- what an accepted step hands back, field by field
 pub accepted-step-is : (c : Context) (t e : List ℕ) {r : Step} → r .answer ≡ 0 → r .rule ≡ 0 → r .context ≡ next-context c (event e)

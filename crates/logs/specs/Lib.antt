@@ -2,7 +2,7 @@
 -- apart from these definitions, the laws about them.
 pub mod Logs
 pub mod Replays
-pub mod State
+pub mod Progress
 pub mod Stops
 pub mod Ends
 pub mod Laws

@@ -1,16 +1,17 @@
 -- Document 01, "Replay program": what is reported of each event. Its sentence "Should a step answer 2 or 3,
 -- print its line and end" is taken back by document 02, Ask 9, since no step does (`Stops.antt`).
 use Prim.Native.Nat.{ℕ, _/_}
-use mathlib.Core.Bool.{Bool, true, cond, not}
+use mathlib.Core.Bool.{Bool, true, cond}
 use mathlib.Core.List.{List, [], _∷_, _++_}
 use mathlib.Core.Path.{_≡_}
-use lib.Dec.{eqb}
 use lib.ListN.{length, take}
 use Rattle.model.specs.declared.Context.{Context}
 use Rattle.model.specs.Bits.{bytes}
 use Rattle.model.specs.Buffers.{put}
 use Rattle.runs.specs.Book.{Book, opened, book-table, book-answer, book-after, book-report, book-of}
 use Rattle.runs.specs.Runs.{Run, started, run-answer, run-after, run-report, run-of}
+use Rattle.runs.specs.InPlace.{in-place-after, in-place-of}
+use Rattle.states.specs.States.{side-after}
 use Rattle.logs.specs.declared.Replayed.{Replayed}
 use Rattle.logs.specs.Logs.{events-of}
 
@@ -28,14 +29,11 @@ unfoldable pub run-lines : Run → List (List ℕ) → List Line
 run-lines s [] = []
 run-lines s (e ∷ es) = run-line s e ∷ run-lines (run-after s e) es
 
--- whether the first of the two buffers holds the table after the events, as it does or does not
--- before them: an accepted event puts it into the other
-unfoldable pub side-after : Bool → Run → List ℕ → Bool
-side-after first s e = cond (eqb (run-answer s e) 0) (not first) first
-
+-- whether the first of the two buffers holds the table after the events, as it does or does not before them: a table
+-- that does not stay in its buffer goes into the other
 unfoldable pub side-ended : Bool → Run → List (List ℕ) → Bool
 side-ended first s [] = first
-side-ended first s (e ∷ es) = side-ended (side-after first s e) (run-after s e) es
+side-ended first s (e ∷ es) = side-ended (side-after first s e) (in-place-after s e) es
 
 -- the same of the book
 unfoldable pub book-line : Book → List ℕ → Line
@@ -67,17 +65,17 @@ front-of r a b = cond (r .first) a b
 abbrev pub back-of : Replayed → List ℕ → List ℕ → List ℕ
 back-of r a b = cond (r .first) b a
 
--- what a replay of a log leaves and reports: the context, the length of the table in force, how many
--- lines there are, which buffer holds the table, the two buffers and the lines as rows, all of them the
--- run's, for buffers of any length
+-- what a replay of a log leaves and reports, for buffers of any length: the context, the table in force and its length,
+-- how many lines there are, and the lines as rows, all of them the run's; and which buffer holds the table, and the
+-- bytes of both buffers, which are those of the run that leaves its table in place where it may
 pub record Replays (c : Context) (log a b out : List ℕ) (r : Replayed) (a′ b′ out′ : List ℕ) : Type 0 where
   pub context : r .context ≡ run-of (started c a b) (replayed (c .«linear_width») log (length out)) .context
   pub size : r .length ≡ length (run-of (started c a b) (replayed (c .«linear_width») log (length out)) .table)
   pub count : r .count ≡ length (run-lines (started c a b) (replayed (c .«linear_width») log (length out)))
   pub first : r .first ≡ side-ended true (started c a b) (replayed (c .«linear_width») log (length out))
   pub table : take (r .length) (front-of r a′ b′) ≡ run-of (started c a b) (replayed (c .«linear_width») log (length out)) .table
-  pub front : front-of r a′ b′ ≡ run-of (started c a b) (replayed (c .«linear_width») log (length out)) .front
-  pub back : back-of r a′ b′ ≡ run-of (started c a b) (replayed (c .«linear_width») log (length out)) .back
+  pub front : front-of r a′ b′ ≡ in-place-of (started c a b) (replayed (c .«linear_width») log (length out)) .front
+  pub back : back-of r a′ b′ ≡ in-place-of (started c a b) (replayed (c .«linear_width») log (length out)) .back
   pub lines : out′ ≡ put 0 (rows (run-lines (started c a b) (replayed (c .«linear_width») log (length out)))) out
 
 -- with buffers of at least 47,104 bytes: the context, the table byte for byte and the lines are the

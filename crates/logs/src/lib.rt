@@ -1,6 +1,6 @@
-// The replay of a log: its events one by one from a reset, each a step into the other of two buffers.
+// The replay of a log: its events one by one from a reset, the table in one of two buffers.
 use model::Context;
-use model::Step;
+use states::State;
 ghost use mathlib.Core.Path.{_≡_};
 ghost use Prim.Native.Nat.{_+_, _≤_, _<_};
 ghost use lib.ListN.{length};
@@ -8,7 +8,7 @@ ghost use Rattle.model.specs.Buffers.{put};
 ghost use Rattle.model.specs.Tables.{limit};
 ghost use Rattle.logs.specs.Logs.{told-length, event-size};
 ghost use Rattle.logs.specs.Replays.{row, Replays, ByTheBook};
-ghost use Rattle.logs.specs.State.{held-by, state-after, Applies, begun, Ready, Advances};
+ghost use Rattle.logs.specs.Progress.{begun, Ready, Advances};
 
 // What a replay leaves: the context, the length of the table in force, whether the first of the two
 // buffers holds it, and how many lines were reported.
@@ -17,20 +17,6 @@ pub struct Replayed {
     pub length: usize,
     pub first: bool,
     pub count: usize,
-}
-
-// The context and table in force: the table is the first bytes of one of the two buffers.
-pub struct State {
-    pub context: Context,
-    pub length: usize,
-    pub first: bool,
-}
-
-// The state after an event, and its answer and dropped count.
-pub struct Applied {
-    pub state: State,
-    pub answer: u64,
-    pub dropped: usize,
 }
 
 // How far a replay is: the state, the position in the log, and how many events were taken.
@@ -76,46 +62,6 @@ fn size_of_event(width: u64, log: &[u8]) -> usize
     }
 }
 
-// The state after a step that was answered so: an accepted one changes the buffer.
-fn state_after(state: State, s: Step) -> State
-    ensures { λ r. ⌜ r ≡ state-after state s ⌝ }
-{
-    if s.answer == 0 {
-        let context = s.context;
-        State {
-            context,
-            length: s.length,
-            first: !state.first,
-        }
-    } else {
-        state
-    }
-}
-
-// One event on the table in force, written into the other buffer.
-fn apply(state: State, event: &[u8], first: &mut [u8], second: &mut [u8]) -> Applied
-    requires { ⌜ held-by state (now first) (now second) ⌝ }
-    ensures { λ r. ⌜ Applies state (now (event .entry)) (now (first .entry)) (now (second .entry)) r (now (first .exit)) (now (second .exit)) ⌝ }
-{
-    let context = state.context;
-    let length = state.length;
-    if state.first {
-        let step = steps::step(context, &first[..length], event, second);
-        Applied {
-            state: state_after(state, step),
-            answer: step.answer,
-            dropped: step.dropped,
-        }
-    } else {
-        let step = steps::step(context, &second[..length], event, first);
-        Applied {
-            state: state_after(state, step),
-            answer: step.answer,
-            dropped: step.dropped,
-        }
-    }
-}
-
 // The start of a replay, from a reset with the capability and widths of a context.
 pub fn start(c: Context) -> Progress
     ensures { λ r. ⌜ r ≡ begun c ⌝ }
@@ -125,6 +71,7 @@ pub fn start(c: Context) -> Progress
         state: State {
             context,
             length: 0,
+            records: 0,
             first: true,
         },
         at: 0,
@@ -141,7 +88,7 @@ pub fn advance(width: u64, p: Progress, log: &[u8], first: &mut [u8], second: &m
     let at = p.at;
     let before = p.state;
     let end = at + size_of_event(width, &log[at..]);
-    let applied = apply(before, &log[at..end], first, second);
+    let applied = states::apply(before, &log[at..end], first, second);
     let state = applied.state;
     Advanced {
         progress: Progress {

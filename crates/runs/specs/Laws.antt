@@ -5,5 +5,6 @@ pub mod Steps
 pub mod Parts
 pub mod First
 pub mod Second
+pub mod InPlace
 pub mod Demand3
 pub mod Apart

@@ -2,6 +2,7 @@
 -- apart from these definitions, the laws that prove them.
 pub mod Book
 pub mod Runs
+pub mod InPlace
 pub mod Apart
 pub mod Laws
 pub mod Cards

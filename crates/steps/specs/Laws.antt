@@ -1,2 +1,2 @@
--- The laws of counts that are carried over a step.
+-- The laws of the records after a step.
 pub mod Counts

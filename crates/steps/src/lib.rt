@@ -4,42 +4,16 @@ use model::Event;
 use model::EventReading;
 use model::Step;
 ghost use mathlib.Core.Path.{_≡_};
-ghost use mathlib.Core.Bool.{true, cond};
+ghost use mathlib.Core.Bool.{true};
 ghost use Prim.Native.Nat.{_+_, _≤_};
 ghost use lib.ListN.{length};
 ghost use Rattle.model.specs.Buffers.{put};
-ghost use Rattle.model.specs.Layouts.{kind-of, mapping-kind};
 ghost use Rattle.model.specs.Tables.{records};
 ghost use Rattle.model.specs.Events.{event};
-ghost use Rattle.model.specs.Answers.{first, valid-here, table-grounds, created, no-room};
+ghost use Rattle.model.specs.Answers.{first, valid-here, table-grounds, created};
 ghost use Rattle.model.specs.Steps.{new-table, accepted-step, refusal, stepped, written};
-ghost use Rattle.tallies.specs.Tallies.{Tallied, Carries, Countable};
-ghost use Rattle.steps.specs.Counts.{cells-with-creation, pcids-with-creation, records-after};
-
-// The bytes are a creation's: their kind is a mapping's.
-fn is_creation(e: &[u8]) -> bool
-    ensures { λ r. ⌜ r ≡ mapping-kind (kind-of (now (e .entry))) ⌝ }
-{
-    if e.len() == 0 {
-        return false;
-    }
-    kinds::is_mapping(numbers::number1(e, 0))
-}
-
-// How many bytes an event adds to the table: a creation's own.
-fn created_length(e: &[u8]) -> usize
-    ensures { λ r. ⌜ r ≡ length (created (now (e .entry))) ⌝ }
-{
-    if is_creation(e) { e.len() } else { 0 }
-}
-
-// 12: the new buffer, or the table limit, is less than the old table with the creation.
-fn is_without_room(room: usize, table: &[u8], e: &[u8]) -> bool
-    ensures { λ r. ⌜ r ≡ no-room room (now (table .entry)) (now (e .entry)) ⌝ }
-{
-    let needed = table.len() + created_length(e);
-    (room < needed) | (model::TABLE_LIMIT < needed)
-}
+ghost use Rattle.tallies.specs.Tallies.{Tallied, Carries};
+ghost use Rattle.steps.specs.Counts.{records-after};
 
 // What a refused step reports.
 fn refused(answer: u64, rule: u64, context: Context) -> Step
@@ -54,37 +28,9 @@ fn refused(answer: u64, rule: u64, context: Context) -> Step
     }
 }
 
-// Writes a creation at a position of the new buffer, and answers where it ends; another event adds
-// nothing.
-fn add_creation(raw: &[u8], new: &mut [u8], at: usize) -> usize
-    requires { ⌜ at + length (created (now raw)) ≤ length (now new) ⌝ }
-    ensures { λ r. ⌜ r ≡ at + length (created (now (raw .entry))) ⌝ }
-    ensures { λ _. ⌜ now (new .exit) ≡ put at (created (now (raw .entry))) (now (new .entry)) ⌝ }
-{
-    if !is_creation(raw) {
-        return at;
-    }
-    buffers::put(raw, new, at)
-}
-
-// Counts a creation, where the records are counted; another event adds nothing.
-fn count_creation(raw: &[u8], counting: bool, cells: &mut [u16], pcids: &mut [u16])
-    requires { ⌜ (counting ≡ true → mapping-kind (kind-of (now raw)) ≡ true → Countable (now raw) (now cells) (now pcids)) ⌝ }
-    ensures { λ _. ⌜ now (cells .exit) ≡ cond counting (cells-with-creation (now (raw .entry)) (now (cells .entry))) (now (cells .entry)) ⌝ }
-    ensures { λ _. ⌜ now (pcids .exit) ≡ cond counting (pcids-with-creation (now (raw .entry)) (now (pcids .entry))) (now (pcids .entry)) ⌝ }
-{
-    if !counting {
-        return;
-    }
-    if !is_creation(raw) {
-        return;
-    }
-    tallies::add(raw, cells, pcids);
-}
-
 // Writes the new table of an accepted event: the records out of scope, and a creation at the end. How many records the
 // table has is known; where they are counted, those of the new table are after it.
-fn perform(
+pub fn perform(
     c: Context,
     e: Event,
     table: &[u8],
@@ -106,8 +52,8 @@ fn perform(
     ensures { λ _. ⌜ Carries counting (records (new-table c (now (table .entry)) (now (raw .entry)))) (now (cells .entry)) (now (pcids .entry)) (now (cells .exit)) (now (pcids .exit)) ⌝ }
 {
     let filtered = filters::filter_event(c, e, table, count, counting, cells, pcids, new);
-    count_creation(raw, counting, cells, pcids);
-    let length = add_creation(raw, new, filtered.length);
+    creations::count_creation(raw, counting, cells, pcids);
+    let length = creations::add_creation(raw, new, filtered.length);
     Step {
         answer: 0,
         rule: 0,
@@ -144,7 +90,7 @@ pub fn step_read(
     if answer != 0 {
         return refused(answer, answers::rule_with_answer(c, e, answer), c);
     }
-    if is_without_room(new.len(), table, raw) {
+    if creations::is_without_room(new.len(), table, raw) {
         return refused(12, 0, c);
     }
     perform(c, e, table, count, raw, counting, cells, pcids, new)

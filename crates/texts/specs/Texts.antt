@@ -12,7 +12,8 @@ use Rattle.runs.specs.Book.{opened}
 use Rattle.logs.specs.declared.Progress.{Progress}
 use Rattle.logs.specs.Logs.{log-limit, program, program-width, events-of, events-from}
 use Rattle.logs.specs.Replays.{Line, book-lines, run-lines}
-use Rattle.logs.specs.State.{run-at, begun, Ready, Progresses}
+use Rattle.states.specs.States.{run-at}
+use Rattle.logs.specs.Progress.{begun, Ready, Progresses}
 use Rattle.lines.specs.Text.{line-text, line-limit}
 use Rattle.texts.specs.declared.Piece.{Piece}
 

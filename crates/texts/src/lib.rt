@@ -7,7 +7,7 @@ ghost use Prim.Native.Nat.{_≤_};
 ghost use lib.ListN.{length};
 ghost use Rattle.lines.specs.Text.{line-limit};
 ghost use Rattle.logs.specs.Logs.{program};
-ghost use Rattle.logs.specs.State.{Ready};
+ghost use Rattle.logs.specs.Progress.{Ready};
 ghost use Rattle.texts.specs.Texts.{Starts, TellsTooLong, TellsLines, Continues};
 
 // The longest log, and the most bytes of a line.

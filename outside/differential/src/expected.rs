@@ -1,7 +1,9 @@
 //! What the model says, in the library's form.
 
 use bridge::{FlatContext, FlatReason, FlatReplayed, FlatStep, Part};
-use common::{write_row, ROW};
+use common::{write_row, ROW, TABLE_LIMIT};
+use model::event::Event;
+use model::reason::has_scope;
 use model::{Address, Context, LinearWidth, Reason, Step, Tally, PCIDS};
 use std::mem::swap;
 use std::ops::Range;
@@ -92,8 +94,10 @@ pub fn explain(context: &FlatContext, record: &[u8], event: &[u8]) -> FlatReason
     bridge::flat_reason(reason)
 }
 
-/// A whole log: the model's steps, through the two buffers in turn, as long
-/// as there is room for a row.
+/// A whole log: the model's steps, as long as there is room for a row. With two
+/// buffers of 47,104 bytes or more an event without a scope leaves the table in
+/// its buffer, with a creation behind it; any other event that is accepted
+/// writes the table into the other buffer.
 pub fn replay(
     capability: u64,
     width: u64,
@@ -103,6 +107,8 @@ pub fn replay(
     second: &mut [u8],
     rows: &mut [u8],
 ) -> FlatReplayed {
+    let long = first.len().min(second.len()) >= TABLE_LIMIT;
+    let mut scratch = vec![0; TABLE_LIMIT];
     let (mut old, mut new) = (first, second);
     let mut rows = rows.chunks_exact_mut(ROW);
     let mut end = FlatReplayed {
@@ -118,12 +124,24 @@ pub fn replay(
         };
         let known = model::replay::first_event(LinearWidth::of(linear_width), rest);
         let event = known.unwrap_or(rest);
-        let step = plain_step(&end.context, &old[..end.length], event, new);
+        let step = if long && is_without_scope(&end.context, event) {
+            let step = plain_step(&end.context, &old[..end.length], event, &mut scratch);
+            if step.answer == 0 {
+                let created = end.length..step.length;
+                old[created.clone()].copy_from_slice(&scratch[created]);
+            }
+            step
+        } else {
+            let step = plain_step(&end.context, &old[..end.length], event, new);
+            if step.answer == 0 {
+                end.first = 1 - end.first;
+                swap(&mut old, &mut new);
+            }
+            step
+        };
         if step.answer == 0 {
             end.context = step.context;
             end.length = step.length;
-            end.first = 1 - end.first;
-            swap(&mut old, &mut new);
         }
         end.count += 1;
         write_row(row, [step.answer, step.dropped as u64, end.length as u64]);
@@ -133,4 +151,12 @@ pub fn replay(
         rest = &rest[event.len()..];
     }
     end
+}
+
+/// Whether the bytes are a valid event that drops nothing, whatever the table.
+fn is_without_scope(context: &FlatContext, event: &[u8]) -> bool {
+    bridge::context(context).is_some_and(|known| {
+        let decoded = Event::decode(known.linear(), event);
+        decoded.is_some_and(|decoded| !has_scope(&known, &decoded))
+    })
 }

@@ -123,6 +123,11 @@ fn of_accepted(context: &Context, mapping: &Mapping, event: &Event) -> Reason {
     }
 }
 
+/// Whether an accepted event can drop a record at all.
+pub fn has_scope(context: &Context, event: &Event) -> bool {
+    !without_scope(context, event) && !not_canonical(context, event)
+}
+
 /// Creations, kinds 22 to 24, entry or exit with VPIDs enabled.
 fn without_scope(context: &Context, event: &Event) -> bool {
     match event {

@@ -5,7 +5,7 @@ use native.Mathlib.Omega.{arith}
 use borrow.Author.Needs.{needs}
 use denote.Ref.{now}
 use lib.ListN.{length}
-use Rattle.logs.specs.State.{begun, Ready}
+use Rattle.logs.specs.Progress.{begun, Ready}
 use Rattle.logs.specs.Laws.Lines.{by-the-book}
 use Rattle.logs.specs.Laws.Progress.{ready-begun, at-increases, Going, going, none-from, taking-end}
 use Rattle.logs.specs.Laws.Replaying.{Replaying, replaying-start, replaying-turn, length-written, written-end, replays}

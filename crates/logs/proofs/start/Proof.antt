@@ -1,6 +1,6 @@
 -- The context is that after a reset.
 use borrow.Author.Needs.{needs}
-use Rattle.logs.specs.State.{begun}
+use Rattle.logs.specs.Progress.{begun}
 use Rattle.logs.proofs.start.Statement.{statement}
 use Rattle.logs.proofs.start.Tie as tie
 

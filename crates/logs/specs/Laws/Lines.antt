@@ -8,6 +8,7 @@ use Rattle.model.specs.Tables.{limit}
 use Rattle.runs.specs.Book.{Book, opened, book-after, book-of}
 use Rattle.runs.specs.Runs.{Run, started, run-after, run-of}
 use Rattle.runs.specs.Laws.First.{Follows, follows-started, follows-table, follows-answer, follows-report, follows-after, follows-of}
+use Rattle.runs.specs.Laws.InPlace.{Alike, alike-answer, alike-report, alike-table, alike-after}
 use Rattle.logs.specs.declared.Replayed.{Replayed}
 use Rattle.logs.specs.Replays.{run-line, run-lines, book-line, book-lines, replayed, Replays, ByTheBook}
 
@@ -21,6 +22,17 @@ pub run-lines-append : (s : Run) (es fs : List (List ℕ)) → run-lines s (es +
 unfolding run-lines run-of
 run-lines-append s [] fs = refl
 run-lines-append s (e ∷ es) fs = rw (run-lines-append (run-after s e) es fs)
+
+-- runs that are alike have the same lines
+alike-line : (s s′ : Run) (e : List ℕ) → Alike s s′ → run-line s e ≡ run-line s′ e
+unfolding run-line
+alike-line s s′ e k = rw (alike-answer e k, alike-report e k, alike-table (alike-after e k))
+
+pub alike-lines : (s s′ : Run) (es : List (List ℕ)) → Alike s s′ → run-lines s es ≡ run-lines s′ es
+unfolding run-lines
+alike-lines s s′ [] k = refl
+alike-lines s s′ (e ∷ es) k =
+    ap₂ (λ l ls. l ∷ ls) (alike-line s s′ e k) (alike-lines (run-after s e) (run-after s′ e) es (alike-after e k))
 
 -- a run that is as the book says has the book's lines
 pub follows-line : (s : Run) (b : Book) (e : List ℕ) → Follows s b → run-line s e ≡ book-line b e

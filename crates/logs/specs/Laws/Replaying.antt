@@ -8,14 +8,16 @@ use Rattle.model.specs.declared.Context.{Context}
 use Rattle.model.specs.Buffers.{put}
 use Rattle.laws.specs.Buffers.{put-nil, put-put-front, length-put}
 use Rattle.runs.specs.Runs.{Run, started}
+use Rattle.runs.specs.Laws.InPlace.{in-place-holds}
+use Rattle.states.specs.States.{run-on, run-at}
+use Rattle.states.specs.Laws.States.{length-run-at}
 use Rattle.logs.specs.declared.Progress.{Progress}
 use Rattle.logs.specs.declared.Advanced.{Advanced}
 use Rattle.logs.specs.Logs.{events-from}
-use Rattle.logs.specs.State.{run-at, begun, Ready, Advances, Progresses}
+use Rattle.logs.specs.Progress.{begun, Ready, Advances, Progresses}
 use Rattle.logs.specs.Replays.{row-length, row, rows, run-lines, replayed, Replays}
 use Rattle.logs.specs.Laws.Rows.{length-row}
 use Rattle.logs.specs.Laws.Lines.{length-run-lines}
-use Rattle.logs.specs.Laws.State.{length-run-at}
 use Rattle.logs.specs.Laws.Progress.{line-of, lines-next, Going, Taking, taking-start, taking-turn}
 
 -- the rows written so far, with those that are left, are the rows of all
@@ -35,16 +37,17 @@ written-start w log out p n a b none =
     record { written = []; whole = refl; size = omega arith; fits = omega arith; buffer = sym (put-nil 0 out) }
 
 -- one event, of which a row was put behind the others
-pub written-turn : {w : ℕ} {all log out : List ℕ} {p : Progress} {n : ℕ} {a b out′ : List ℕ} → Written w all log out p (suc n) a b out′ → p .at < length log
+pub written-turn : {w : ℕ} {all log out : List ℕ} {p : Progress} {n : ℕ} {a b out′ : List ℕ} → Written w all log out p (suc n) a b out′ → Ready p log a b
+    → p .at < length log
     → row-length * (p .count + 1) ≤ length out
     → {r : Advanced} {a′ b′ : List ℕ} → Advances w p log a b r a′ b′
     → {out″ : List ℕ} → out″ ≡ put (row-length * p .count) (row (line-of r)) out′
     → Written w all log out (r .progress) n a′ b′ out″
 unfolding rows
-written-turn {n = n} w more fits {r} done wrote =
+written-turn {n = n} w ready more fits {r} done wrote =
     record {
       written = w .written ++ row (line-of r);
-      whole = rw (lines-next n more done) at (w .whole) ∙ rw append-assoc;
+      whole = rw (lines-next n ready more done) at (w .whole) ∙ rw append-assoc;
       size = omega (arith, done .count, w .size, length-append (w .written) (row (line-of r)), length-row (line-of r));
       fits = omega (arith, done .count);
       buffer = wrote ∙ rw (w .buffer, ← (w .size)) (put-put-front (w .written) (row (line-of r)) _);
@@ -81,8 +84,8 @@ replaying-turn {most = most} {p} t room g {r} done keeps-a keeps-b wrote =
     let n = most - r .progress .count in
     let left : most - p .count ≡ suc n = omega (arith, g .fewer, done .count) in
     record {
-      taking = taking-turn n (g .more) done (rw left at (t .taking)) keeps-a keeps-b;
-      rows = written-turn (rw left at (t .rows)) (g .more) (omega (arith, g .fewer)) done wrote;
+      taking = taking-turn n (t .taking .ready) (g .more) done (rw left at (t .taking)) keeps-a keeps-b;
+      rows = written-turn (rw left at (t .rows)) (t .taking .ready) (g .more) (omega (arith, g .fewer)) done wrote;
     }
 
 -- a replay from a reset, of as many events as there is room for rows
@@ -94,14 +97,15 @@ pub replays : (c : Context) (log a b out : List ℕ) {p : Progress} {a′ b′ o
     a′
     b′
     out′
-unfolding begun events-from replayed run-at started
+unfolding begun events-from replayed run-on run-at started
 replays c log a b out {p} {a′} {b′} done wrote =
+    let same = in-place-holds c (replayed (c .«linear_width») log (length out)) a b in
     record {
-      context = ap (λ (x : Run). x .context) (done .run);
-      size = sym (length-run-at (p .state) a′ b′ (done .ready .held)) ∙ ap (λ (x : Run). length (x .table)) (done .run);
+      context = ap (λ (x : Run). x .context) (done .run) ∙ same .context;
+      size = sym (length-run-at (p .state) a′ b′ (done .ready .holds)) ∙ ap (λ (x : Run). length (x .table)) (done .run) ∙ ap length (same .table);
       count = omega (arith, done .count, length-run-lines (started c a b) (replayed (c .«linear_width») log (length out)));
       first = done .side;
-      table = ap (λ (x : Run). x .table) (done .run);
+      table = ap (λ (x : Run). x .table) (done .run) ∙ same .table;
       front = ap (λ (x : Run). x .front) (done .run);
       back = ap (λ (x : Run). x .back) (done .run);
       lines = wrote;

@@ -5,7 +5,7 @@ use native.Mathlib.Omega.{arith}
 use borrow.Author.Needs.{needs}
 use lib.ListN.{length}
 use Rattle.lines.specs.Text.{line-limit}
-use Rattle.logs.specs.State.{Ready}
+use Rattle.logs.specs.Progress.{Ready}
 use Rattle.replay.proofs.write_text.Statement.{statement}
 use Rattle.replay.proofs.write_text.Tie as tie
 

@@ -12,7 +12,7 @@ use Rattle.laws.specs.Buffers.{put-put-front}
 use Rattle.laws.specs.Steps.{accepted-step-is, judged-whole, judged-short}
 use Rattle.filters.specs.Filters.{filtered}
 use Rattle.filters.specs.Laws.Filters.{length-filtered, new-table-filtered, dropped-count-scoped}
-use Rattle.steps.specs.Laws.Counts.{kept, creation-countable, tallied-new-table}
+use Rattle.creations.specs.Laws.Counts.{kept, creation-countable, tallied-new-table}
 use Rattle.steps.proofs.perform.Statement.{statement}
 use Rattle.steps.proofs.perform.Tie as tie
 

@@ -12,7 +12,7 @@ returns c =
 returns-2 : tie.Need-returns-2
 returns-2 c =
     let t = c .before .before .before .before .before .before .before .before .before .before in
-    lines-told (t .before .before .before .before .before .pre .1) (t .if1 .left) (c .before .before .before .before .before .before .write-lines .ensures)
+    lines-told (t .before .before .before .before .before .pre .0) (t .before .before .before .before .before .pre .1) (t .if1 .left) (c .before .before .before .before .before .before .write-lines .ensures)
 
 pub write-next-spec : {M : Type 1} → statement M
 write-next-spec =

@@ -19,10 +19,11 @@ use Rattle.logs.specs.declared.Progress.{Progress}
 use Rattle.logs.specs.declared.Advanced.{Advanced}
 use Rattle.logs.specs.Logs.{log-limit, program, program-width, events-of, events-from}
 use Rattle.logs.specs.Replays.{Line, run-lines}
-use Rattle.logs.specs.State.{run-at, begun, Ready, Advances, Progresses}
+use Rattle.states.specs.States.{run-at}
+use Rattle.logs.specs.Progress.{begun, Ready, Advances, Progresses}
 use Rattle.logs.specs.Laws.Logs.{events-of-end, events-of-split, events-from-cons, events-from-end, event-size-within, length-event-at}
-use Rattle.logs.specs.Laws.Lines.{length-run-lines, run-lines-append, follows-lines}
-use Rattle.logs.specs.Laws.Progress.{ready-begun, run-at-begun, lines-next, Going, Taking, taking-start, taking-turn, taking-end}
+use Rattle.logs.specs.Laws.Lines.{length-run-lines, follows-lines}
+use Rattle.logs.specs.Laws.Progress.{ready-begun, run-at-begun, lines-next, lines-progressed, Going, Taking, taking-start, taking-turn, taking-end}
 use Rattle.lines.specs.Text.{line-text, line-limit}
 use Rattle.lines.specs.Laws.Text.{length-line, line-some}
 use Rattle.texts.specs.declared.Piece.{Piece}
@@ -60,11 +61,11 @@ starts is =
 -- ---- the lines of the next events
 
 -- one line more
-pub next-lines-cons : {p : Progress} {log a b : List ℕ} (n : ℕ) → p .at < length log → {r : Advanced} {a′ b′ : List ℕ} → Advances program-width p log a b r a′ b′
+pub next-lines-cons : {p : Progress} {log a b : List ℕ} (n : ℕ) → Ready p log a b → p .at < length log → {r : Advanced} {a′ b′ : List ℕ} → Advances program-width p log a b r a′ b′
     → next-lines p log a b (suc n)
     ≡ line-text (r .progress .count) (r .answer) (r .dropped) (r .progress .state .length) ++ next-lines (r .progress) log a′ b′ n
 unfolding next-lines numbered-from
-next-lines-cons n more done = rw (lines-next n more done, done .count)
+next-lines-cons n ready more done = rw (lines-next n ready more done, done .count)
 
 -- what holds before each event: the lines written so far, with those that are left, are the lines of all
 pub record Telling (from : Progress) (log a b out : List ℕ) (most : ℕ) (p : Progress) (count used : ℕ) (a′ b′ out′ : List ℕ) : Type 0 where
@@ -110,9 +111,9 @@ telling-turn {out = out} {most} {p} {count} t room g {r} done keeps-a keeps-b {o
     let buffer : out″ ≡ put 0 (t .written ++ line) out = told .1 ∙ rw (t .size, t .buffer) (put-put-front (t .written) line out) in
     let size = length-append (t .written) line in
     record {
-      taking = taking-turn n (g .more) done (rw left at (t .taking)) keeps-a keeps-b;
+      taking = taking-turn n (t .taking .ready) (g .more) done (rw left at (t .taking)) keeps-a keeps-b;
       written = t .written ++ line;
-      whole = rw (left, next-lines-cons n (g .more) done) at (t .whole) ∙ rw append-assoc;
+      whole = rw (left, next-lines-cons n (t .taking .ready) (g .more) done) at (t .whole) ∙ rw append-assoc;
       size = omega (arith, told .0, t .size, size);
       upto = omega (arith, g .fewer);
       few = omega (arith, told .0, t .few, short);
@@ -138,13 +139,13 @@ telling-end {out = out} {used = used} {out′ = out′} t none =
 -- ---- a piece
 
 -- what is left is the lines of the next events, and then what is left after them
-text-left-split : {p q : Progress} {log a b a′ b′ : List ℕ} {n : ℕ} → length log ≤ log-limit → Progresses program-width p log a b n q a′ b′
+text-left-split : {p q : Progress} {log a b a′ b′ : List ℕ} {n : ℕ} → Ready p log a b → length log ≤ log-limit → Progresses program-width p log a b n q a′ b′
     → text-left p log a b ≡ next-lines p log a b n ++ text-left q log a′ b′
 unfolding text-left next-lines
-text-left-split {p} {q} {log} {a} {b} {n = n} short done =
+text-left-split {p} {q} {log} {a} {b} {n = n} ready short done =
     let es = events-from program-width log (p .at) n in
     let count : p .count + 1 + length es ≡ q .count + 1 = omega (arith, done .count) in
-    rw (le-leb (length log) log-limit short, events-of-split program-width log n (p .at), ← (done .at), run-lines-append (run-at (p .state) a b) es, ← (done .run), numbered-from-append, length-run-lines (run-at (p .state) a b) es, count)
+    rw (le-leb (length log) log-limit short, events-of-split program-width log n (p .at), ← (done .at), lines-progressed ready done, numbered-from-append, length-run-lines (run-at (p .state) a b) es, count)
 
 -- lines are some bytes where there is an event, and none where there is none
 next-lines-none : (p : Progress) (log a b : List ℕ) (n : ℕ) → length log ≤ p .at → next-lines p log a b n ≡ []
@@ -178,11 +179,12 @@ some-taken {p} {q} {log} {a} {b} (suc n) some done more = go (ltb (p .at) (lengt
     go false m = absurd (omega (arith, ap length (next-lines-none p log a b (suc n) (ltb-false (p .at) (length log) m))))
 
 -- a piece of lines
-pub lines-told : {p : Progress} {log a b out : List ℕ} {r : Piece} {a′ b′ out′ : List ℕ} → line-limit ≤ length out → length log ≤ log-limit
+pub lines-told : {p : Progress} {log a b out : List ℕ} {r : Piece} {a′ b′ out′ : List ℕ} → Ready p log a b → line-limit ≤ length out
+    → length log ≤ log-limit
     → TellsLines p log a b out r a′ b′ out′
     → Continues p log a b out r a′ b′ out′
 unfolding next-text
-lines-told {p} {log} {a} {b} {out} {r} room short told =
+lines-told {p} {log} {a} {b} {out} {r} ready room short told =
     let n = length out / line-limit in
     let is : next-text p log a b (length out) ≡ next-lines p log a b n = rw (le-leb (length log) log-limit short) in
     record {
@@ -192,7 +194,7 @@ lines-told {p} {log} {a} {b} {out} {r} room short told =
       short = λ h. told .progress;
       long = λ h. absurd (omega arith);
       ready = told .progress .ready;
-      left = rw is (text-left-split short (told .progress));
+      left = rw is (text-left-split ready short (told .progress));
       ended = λ none. nothing-left p log a b n (omega arith) short (omega (arith, told .size));
       further = λ some. some-taken n (omega arith) (told .progress) (omega (arith, told .size));
     }
@@ -233,7 +235,7 @@ too-long-told {p} {log} {a} {b} {out} {r} ready long told =
       counts = told .counts;
       short = λ h. absurd (omega arith);
       long = λ h. (told .progress, (refl, refl));
-      ready = rw (told .progress) (record { held = ready .held; inside = omega arith; few = omega (arith, ready .few, ready .inside) });
+      ready = rw (told .progress) (record { holds = ready .holds; inside = omega arith; few = omega (arith, ready .few, ready .inside) });
       left = rw (over, told .progress, none, append-nil);
       ended = λ n. rw over (go (ltb (p .at) (length log)) (told .size) n);
       further = λ some. rw (told .progress) (taken (ltb (p .at) (length log)) refl (told .size) some);

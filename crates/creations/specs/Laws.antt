@@ -1,0 +1,2 @@
+-- The laws of counts with a creation.
+pub mod Counts

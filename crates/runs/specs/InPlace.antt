@@ -1,0 +1,50 @@
+-- A run that leaves its table where it is, where it may: what `Runs` says of contexts, tables and reports, with fewer
+-- bytes written. With shorter buffers room is judged against the other one, so there every accepted event writes
+-- into it.
+use Prim.Native.Nat.{ℕ}
+use mathlib.Core.Bool.{Bool, cond, not, _&&_}
+use mathlib.Core.List.{List, [], _∷_, _++_}
+use mathlib.Core.Path.{_≡_}
+use lib.Dec.{eqb, leb}
+use lib.ListN.{length}
+use Rattle.model.specs.declared.Context.{Context}
+use Rattle.model.specs.Buffers.{put}
+use Rattle.model.specs.Tables.{limit}
+use Rattle.model.specs.Events.{event}
+use Rattle.model.specs.Scopes.{has-scope, next-context}
+use Rattle.model.specs.Answers.{created}
+use Rattle.runs.specs.Book.{Report}
+use Rattle.runs.specs.Runs.{Run, started, run-answer, run-after, run-report, run-reports, run-of}
+
+-- the table stays in its buffer: the event has no scope, and both buffers have the limit or more
+unfoldable pub stays : Run → List ℕ → Bool
+stays s e = leb limit (length (s .front)) && leb limit (length (s .back)) && not (has-scope (s .context) (event e))
+
+-- the run after an event that leaves the table in its buffer
+unfoldable pub in-place : Run → List ℕ → Run
+in-place s e =
+    cond (eqb (run-answer s e) 0)
+    (record {
+      context = next-context (s .context) (event e);
+      table = s .table ++ created e;
+      front = put (length (s .table)) (created e) (s .front);
+      back = s .back;
+    })
+    s
+
+unfoldable pub in-place-after : Run → List ℕ → Run
+in-place-after s e = cond (stays s e) (in-place s e) (run-after s e)
+
+unfoldable pub in-place-reports : Run → List (List ℕ) → List Report
+in-place-reports s [] = []
+in-place-reports s (e ∷ es) = run-report s e ∷ in-place-reports (in-place-after s e) es
+
+unfoldable pub in-place-of : Run → List (List ℕ) → Run
+in-place-of s [] = s
+in-place-of s (e ∷ es) = in-place-of (in-place-after s e) es
+
+-- Such a run has the context, the table and the reports of `run-of`, whatever the events and the buffers are.
+pub record InPlace (c : Context) (es : List (List ℕ)) (a b : List ℕ) : Type 0 where
+  pub context : in-place-of (started c a b) es .context ≡ run-of (started c a b) es .context
+  pub table : in-place-of (started c a b) es .table ≡ run-of (started c a b) es .table
+  pub reports : in-place-reports (started c a b) es ≡ run-reports (started c a b) es
