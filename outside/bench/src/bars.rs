@@ -1,134 +1,207 @@
 //! The bars, and what was measured against them.
 
+use crate::logs::{CREATIONS, FILLED, SMALL, SWITCHES};
 use crate::rows::{full_of, growth, series, Row, What};
 use std::fmt::Write;
 
-/// The bars.
-const TUNED_BAR: f64 = 2.0;
+/// How many times the tuned model's time.
+const REPLAY_BARS: [(&str, f64); 4] = [
+    (CREATIONS, 0.02),
+    (SWITCHES, 0.02),
+    (FILLED, 0.5),
+    (SMALL, 1.5),
+];
+const STEP_BAR: f64 = 1.05;
+const LOOKUP_BAR: f64 = 1.1;
 const COUNTED_BAR: f64 = 1.3;
-const EMPTY_BAR: f64 = 2.0;
-const GROWTH_BAR: f64 = 2.2;
 
 /// The bar of counted steps holds for tables of so many records and more.
 const COUNTED_FROM: usize = 176;
 
-/// What is measured: how many times something else, or microseconds.
+/// The microseconds of a counted step on an empty table.
+const EMPTY_BAR: f64 = 2.0;
+
+/// How many times the time of half the records.
+const GROWTH_BAR: f64 = 2.2;
+
 const TIMES: &str = "times";
 const MICROSECONDS: &str = "us";
 
-/// One bar: what it is about, the worst that was measured, and where.
-struct Bar {
-    about: &'static str,
-    unit: &'static str,
+/// The widest line of a list.
+const LINE: usize = 110;
+
+/// A figure, and what it was measured of.
+type Figure<'a> = (f64, &'a Row);
+
+/// One bar: what it is about, its limit, and all that was measured.
+struct Bar<'a> {
+    about: String,
     limit: f64,
-    worst: f64,
-    at: String,
-    missed: Vec<String>,
+    unit: &'static str,
+    figures: Vec<Figure<'a>>,
 }
 
-impl Bar {
-    fn new(
-        about: &'static str,
-        (limit, unit): (f64, &'static str),
-        measured: Vec<(f64, String)>,
-    ) -> Bar {
-        let mut bar = Bar {
-            about,
-            unit,
+impl<'a> Bar<'a> {
+    fn beside_tuned(about: &str, limit: f64, rows: impl Iterator<Item = &'a Row>) -> Bar<'a> {
+        Bar {
+            about: format!("{about}, beside the tuned model"),
             limit,
-            worst: 0.0,
-            at: String::new(),
-            missed: Vec::new(),
-        };
-        for (number, name) in measured {
-            if number > limit {
-                bar.missed.push(format!("{name} {number:.2}"));
-            }
-            if number > bar.worst {
-                bar.worst = number;
-                bar.at = name;
-            }
+            unit: TIMES,
+            figures: rows.map(|row| (row.to_tuned(), row)).collect(),
         }
-        bar
     }
 
+    /// Pass or miss, the worst figure and, where there are several, all that
+    /// missed. A bar of which nothing was measured is missed.
     fn print(&self) -> String {
-        let verdict = if self.missed.is_empty() {
-            "pass"
-        } else {
-            "MISS"
+        let worst = self.figures.iter().max_by(|a, b| a.0.total_cmp(&b.0));
+        let (figure, name) = match worst {
+            Some((figure, row)) => (*figure, format!("worst {figure:.3} ({})", name(row))),
+            None => (f64::INFINITY, "nothing was measured".to_string()),
         };
-        let mut out = format!(
-            "{verdict}  {}: at most {:.1} {}; worst {:.2} ({})\n",
-            self.about, self.limit, self.unit, self.worst, self.at
-        );
-        if !self.missed.is_empty() {
-            let _ = writeln!(out, "      missed by: {}", self.missed.join("; "));
+        let Bar {
+            about, limit, unit, ..
+        } = self;
+        let verdict = if figure <= *limit { "pass" } else { "MISS" };
+        let mut out = format!("{verdict}  {about}: at most {limit} {unit}; {name}\n");
+        if self.figures.len() > 1 {
+            out += &self.missed();
+        }
+        out
+    }
+
+    /// All that missed, by their tables.
+    fn missed(&self) -> String {
+        let mut tables: Vec<(String, Vec<String>)> = Vec::new();
+        let missed = self.figures.iter();
+        for (figure, row) in missed.filter(|(figure, _)| *figure > self.limit) {
+            let entry = format!("{figure:.3} {}", row.family);
+            let place = place(row);
+            match tables.iter_mut().find(|(other, _)| *other == place) {
+                Some((_, entries)) => entries.push(entry),
+                None => tables.push((place, vec![entry])),
+            }
+        }
+        let count: usize = tables.iter().map(|(_, entries)| entries.len()).sum();
+        if count == 0 {
+            return String::new();
+        }
+        let mut out = format!("      missed by {count} of {}\n", self.figures.len());
+        for (place, entries) in &tables {
+            let _ = write!(out, "      {place}:{}", wrapped(entries));
         }
         out
     }
 }
 
+/// Entries on lines that are not too wide.
+fn wrapped(entries: &[String]) -> String {
+    let mut out = String::new();
+    let mut width = LINE;
+    for entry in entries {
+        let end = if out.is_empty() { "" } else { ";" };
+        if width + entry.len() + 3 > LINE {
+            let _ = write!(out, "{end}\n        {entry}");
+            width = 8 + entry.len();
+        } else {
+            let _ = write!(out, "{end} {entry}");
+            width += 2 + entry.len();
+        }
+    }
+    out + "\n"
+}
+
+/// The tables of a row.
+fn place(row: &Row) -> String {
+    format!(
+        "{}, {}, {} records",
+        row.what.name(),
+        row.table,
+        row.records
+    )
+}
+
+/// What a row is of; of a replay, whose log the bar names, the two times.
+fn name(row: &Row) -> String {
+    let [ours, tuned, _] = row.times;
+    match row.what {
+        What::Replay => format!("{ours:.1} ns an event, the tuned model {tuned:.1}"),
+        _ => format!("{}; {}", row.family, place(row)),
+    }
+}
+
 /// The bars with pass or miss.
 pub fn bars(rows: &[Row]) -> String {
-    let name = |row: &Row| format!("{} on {}", row.family, row.table);
-    let full = |row: &&Row| row.what != What::Replay && row.records == full_of(rows, row);
-    let steps = rows
-        .iter()
-        .filter(|row| row.what == What::Step && full(row))
-        .map(|row| (row.to_tuned(), name(row)));
-    let counted = || rows.iter().filter(|row| row.what == What::Counted);
-    let large = counted()
-        .filter(|row| row.records >= COUNTED_FROM)
-        .map(|row| (row.to_tuned(), format!("{}, {}", name(row), row.records)));
-    let empty = counted()
-        .filter(|row| row.records == 0)
-        .map(|row| (row.ours() / 1e3, name(row)));
-    let replays = rows
-        .iter()
-        .filter(|row| row.what == What::Replay)
-        .map(|row| (row.to_tuned(), row.family.clone()));
-    let growths = rows
-        .iter()
-        .filter(full)
-        .filter_map(|row| Some((growth(&series(rows, row))?, name(row))));
-    let bars = [
-        Bar::new(
-            "step on a full table, beside the tuned model",
-            (TUNED_BAR, TIMES),
-            steps.collect(),
-        ),
-        Bar::new(
-            "counted step from 176 records, beside the tuned model",
-            (COUNTED_BAR, TIMES),
-            large.collect(),
-        ),
-        Bar::new(
-            "counted step on an empty table",
-            (EMPTY_BAR, MICROSECONDS),
-            empty.collect(),
-        ),
-        Bar::new(
-            "replay of a log of 65,536 bytes, beside the tuned model",
-            (TUNED_BAR, TIMES),
-            replays.collect(),
-        ),
-        Bar::new(
-            "twice the records (1,408 to 2,816)",
-            (GROWTH_BAR, TIMES),
-            growths.collect(),
-        ),
-    ];
+    let mut bars = Vec::from(REPLAY_BARS.map(|bar| replay(rows, bar)));
+    bars.extend([
+        step(rows),
+        lookup(rows),
+        counted(rows),
+        counted_on_empty(rows),
+        twice_the_records(rows),
+    ]);
     bars.iter().map(Bar::print).collect()
+}
+
+fn of(rows: &[Row], what: What) -> impl Iterator<Item = &Row> {
+    rows.iter().filter(move |row| row.what == what)
+}
+
+/// The rows of the fullest tables.
+fn full(rows: &[Row], what: What) -> impl Iterator<Item = &Row> {
+    of(rows, what).filter(|row| row.records == full_of(rows, row))
+}
+
+fn replay<'a>(rows: &'a [Row], (log, limit): (&str, f64)) -> Bar<'a> {
+    let own = of(rows, What::Replay).filter(|row| row.family == log);
+    Bar::beside_tuned(&format!("replay, {log}"), limit, own)
+}
+
+fn step(rows: &[Row]) -> Bar<'_> {
+    Bar::beside_tuned("step on a full table", STEP_BAR, full(rows, What::Step))
+}
+
+fn lookup(rows: &[Row]) -> Bar<'_> {
+    let full = full(rows, What::Lookup);
+    Bar::beside_tuned("lookup in a full table", LOOKUP_BAR, full)
+}
+
+fn counted(rows: &[Row]) -> Bar<'_> {
+    let about = format!("counted step from {COUNTED_FROM} records");
+    let large = of(rows, What::Counted).filter(|row| row.records >= COUNTED_FROM);
+    Bar::beside_tuned(&about, COUNTED_BAR, large)
+}
+
+fn counted_on_empty(rows: &[Row]) -> Bar<'_> {
+    let empty = of(rows, What::Counted).filter(|row| row.records == 0);
+    Bar {
+        about: "counted step on an empty table".to_string(),
+        limit: EMPTY_BAR,
+        unit: MICROSECONDS,
+        figures: empty.map(|row| (row.ours() / 1e3, row)).collect(),
+    }
+}
+
+fn twice_the_records(rows: &[Row]) -> Bar<'_> {
+    let all = [What::Step, What::Counted, What::Lookup, What::Widen];
+    let full = all.into_iter().flat_map(|what| full(rows, what));
+    Bar {
+        about: "twice the records (1,408 to 2,816)".to_string(),
+        limit: GROWTH_BAR,
+        unit: TIMES,
+        figures: full
+            .filter_map(|row| Some((growth(&series(rows, row))?, row)))
+            .collect(),
+    }
 }
 
 #[cfg(test)]
 mod tests {
     use super::*;
 
-    fn step(records: usize, times: [f64; 3]) -> Row {
+    fn row(what: What, records: usize, times: [f64; 3]) -> Row {
         Row {
-            what: What::Step,
+            what,
             family: "reset".to_string(),
             table: "mixed kinds".to_string(),
             records,
@@ -140,71 +213,104 @@ mod tests {
 
     #[test]
     fn a_bar_is_passed_or_missed() {
-        let half = step(1_408, [100.0, 90.0, 50.0]);
-        let full = step(2_816, [210.0, 140.0, 100.0]);
-        let said = bars(&[half, full]);
-        let due = "pass  step on a full table, beside the tuned model: at most 2.0 times; \
-                   worst 1.50 (reset on mixed kinds)\n";
-        assert!(said.starts_with(due), "{said}");
-        assert!(
-            said.contains("worst 2.10 (reset on mixed kinds)\n"),
-            "{said}"
-        );
-        assert!(!said.contains("MISS"), "{said}");
-
-        let half = step(1_408, [100.0, 90.0, 50.0]);
-        let full = step(2_816, [230.0, 110.0, 100.0]);
-        let said = bars(&[half, full]);
-        assert_eq!(said.matches("MISS").count(), 2, "{said}");
-        assert!(
-            said.contains("      missed by: reset on mixed kinds 2.30\n"),
-            "{said}"
-        );
+        let half = || row(What::Step, 1_408, [100.0, 50.0, 50.0]);
+        let full = |ours| row(What::Step, 2_816, [ours, 200.0, 100.0]);
+        let said = step(&[half(), full(210.0)]).print();
+        let due = "pass  step on a full table, beside the tuned model: at most 1.05 times; \
+                   worst 1.050 (reset; step, mixed kinds, 2816 records)\n";
+        assert_eq!(said, due);
+        let said = step(&[half(), full(211.0)]).print();
+        let due = "MISS  step on a full table, beside the tuned model: at most 1.05 times; \
+                   worst 1.055 (reset; step, mixed kinds, 2816 records)\n";
+        assert_eq!(said, due);
     }
 
-    /// Counted steps have two bars of their own, and that of growth.
+    #[test]
+    fn a_bar_of_nothing_is_missed() {
+        let said = bars(&[]);
+        assert_eq!(said.matches("MISS").count(), 9, "{said}");
+        assert_eq!(said.matches("nothing was measured\n").count(), 9, "{said}");
+    }
+
+    #[test]
+    fn each_log_has_its_bar() {
+        let replayed = |family: &str, ours| Row {
+            family: family.to_string(),
+            ..row(What::Replay, 0, [ours, 1_000.0, 1.0])
+        };
+        let rows = [
+            replayed("creations only", 19.0),
+            replayed("fill, then VMXON and VMXOFF in turn", 21.0),
+            replayed("fill, then random events", 501.0),
+            replayed("random events on small tables", 1_499.0),
+        ];
+        let said = REPLAY_BARS.map(|bar| replay(&rows, bar).print());
+        let due = "pass  replay, creations only, beside the tuned model: at most 0.02 times; \
+                   worst 0.019 (19.0 ns an event, the tuned model 1000.0)\n";
+        assert_eq!(said[0], due);
+        let passed = said.map(|said| said.starts_with("pass"));
+        assert_eq!(passed, [true, false, false, true]);
+    }
+
+    #[test]
+    fn lookups_are_of_full_tables() {
+        let small = row(What::Lookup, 16, [900.0, 100.0, 1.0]);
+        let large = row(What::Lookup, 2_816, [110.0, 100.0, 1.0]);
+        let said = lookup(&[small, large]).print();
+        assert!(said.starts_with("pass") && said.contains("1.100"), "{said}");
+    }
+
+    /// Counted steps have two bars of their own.
     #[test]
     fn bars_of_counted_steps() {
-        let counted = |records, times| Row {
-            what: What::Counted,
-            ..step(records, times)
-        };
         let good = [
-            counted(0, [1_990.0, 100.0, 1.0]),
-            counted(16, [1_000.0, 100.0, 1.0]),
-            counted(176, [129.0, 100.0, 50.0]),
+            row(What::Counted, 0, [1_990.0, 100.0, 1.0]),
+            row(What::Counted, 16, [1_000.0, 100.0, 1.0]),
+            row(What::Counted, 176, [129.0, 100.0, 50.0]),
         ];
-        let said = bars(&good);
-        assert!(!said.contains("MISS"), "{said}");
         let due = "pass  counted step from 176 records, beside the tuned model: at most 1.3 \
-                   times; worst 1.29 (reset on mixed kinds, 176)\n\
-                   pass  counted step on an empty table: at most 2.0 us; worst 1.99 (reset on \
-                   mixed kinds)\n";
-        assert!(said.contains(due), "{said}");
+                   times; worst 1.290 (reset; counted step, mixed kinds, 176 records)\n";
+        assert_eq!(counted(&good).print(), due);
+        let due =
+            "pass  counted step on an empty table: at most 2 us; worst 1.990 (reset; counted \
+                   step, mixed kinds, 0 records)\n";
+        assert_eq!(counted_on_empty(&good).print(), due);
 
         let bad = [
-            counted(0, [2_100.0, 2_100.0, 1.0]),
-            counted(176, [131.0, 100.0, 50.0]),
-            counted(2_816, [150.0, 100.0, 50.0]),
+            row(What::Counted, 0, [2_100.0, 2_100.0, 1.0]),
+            row(What::Counted, 176, [131.0, 100.0, 50.0]),
+            row(What::Counted, 2_816, [150.0, 100.0, 50.0]),
         ];
-        let said = bars(&bad);
-        assert_eq!(said.matches("MISS").count(), 2, "{said}");
-        assert!(
-            said.contains("      missed by: reset on mixed kinds, 176 1.31; reset on mixed kinds, 2816 1.50\n"),
-            "{said}"
-        );
-        assert!(
-            said.contains("      missed by: reset on mixed kinds 2.10\n"),
-            "{said}"
-        );
+        let said = counted(&bad).print();
+        let due = "      missed by 2 of 2\n      \
+                   counted step, mixed kinds, 176 records:\n        1.310 reset\n      \
+                   counted step, mixed kinds, 2816 records:\n        1.500 reset\n";
+        assert!(said.ends_with(due), "{said}");
+        let said = counted_on_empty(&bad).print();
+        assert!(said.starts_with("MISS"), "{said}");
+    }
+
+    #[test]
+    fn lists_are_wrapped() {
+        let entries = ["1.250 INVVPID 0", "1.350 reset"].map(str::to_string);
+        let due = "\n        1.250 INVVPID 0; 1.350 reset\n";
+        assert_eq!(wrapped(&entries), due);
+        let many = vec!["1.250 INVVPID 0".to_string(); 20];
+        let said = wrapped(&many);
+        assert!(said.lines().all(|line| line.len() <= LINE), "{said}");
+        assert_eq!(said.matches("INVVPID").count(), 20);
+        assert_eq!(said.lines().count(), 1 + 4, "{said}");
     }
 
     /// A fullest table with fewer than twice the records: its growth is scaled.
     #[test]
     fn growth_is_of_twice_the_records() {
-        let half = step(1_408, [100.0; 3]);
-        let full = step(2_112, [150.0; 3]);
+        let half = row(What::Step, 1_408, [100.0; 3]);
+        let full = row(What::Step, 2_112, [150.0; 3]);
         assert_eq!(growth(&[&half, &full]), Some(2.0));
         assert_eq!(growth(&[&half]), None);
+        let said = twice_the_records(&[half, full]).print();
+        let due = "worst 2.000 (reset; step, mixed kinds, 2112 records)\n";
+        assert!(said.ends_with(due), "{said}");
     }
 }

@@ -2,6 +2,7 @@
 
 mod bars;
 mod counted;
+mod logs;
 mod lookups;
 mod measure;
 mod plot;
@@ -36,6 +37,8 @@ had before 57-bit addresses came; those of 57 bits go to the limit, and those
 that are converted have a few records fewer.
 A counted step has a tally besides, whose counts of PCIDs stand in one list that
 is made to match the next table before each call.
+A replay starts with an empty table; its time is that of the whole log, shared
+among its events. The tuned model's is a loop of its steps.
 'growth' is the time at 2,816 records over that at 1,408; a full table of
 mixed kinds has fewer, and its growth is scaled to twice the records.";
 
@@ -176,7 +179,7 @@ fn items() -> Result<Vec<Item>, String> {
             items.push(widenings::item(&tables, &buffers)?);
         }
     }
-    for log in replays::logs() {
+    for log in logs::logs() {
         items.push(replays::item(log, &buffers, &others)?);
     }
     Ok(items)

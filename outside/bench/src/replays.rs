@@ -1,83 +1,21 @@
 //! Replays of whole logs.
 
+use crate::logs::Log;
 use crate::measure::{time, Buffers, Calls, Item, Shared};
 use crate::rows::{Row, What};
-use crate::tables::FULL;
 use bridge::FlatReplayed;
-use common::{encode, LOG_LIMIT, ROW};
-use common::{PROGRAM_CAPABILITY, PROGRAM_LINEAR_WIDTH, PROGRAM_WIDTH};
-use generate::Rng;
-use model::{tuned, Context, Line, LinearWidth};
+use common::{PROGRAM_CAPABILITY, PROGRAM_LINEAR_WIDTH, PROGRAM_WIDTH, ROW};
+use model::{tuned, Context, Line};
 use std::hint::black_box;
 use std::mem::swap;
 use std::rc::Rc;
 
-/// A log with its name.
-pub struct Log {
-    pub name: &'static str,
-    pub bytes: Vec<u8>,
-}
-
-/// The logs: the two shapes of the generator, then two that keep the table
-/// full, or nearly so, for long.
-pub fn logs() -> Vec<Log> {
-    // VPID 0, PCID 0, span 1, page 0.
-    let creation = encode(4, &[0, 0, 1, 0, 0x07_0707_0707]);
-    let filling = creation.repeat(FULL / creation.len());
-    let switches = [22, 23].repeat((LOG_LIMIT - FULL) / 2);
-    vec![
-        Log {
-            name: "random events",
-            bytes: random(),
-        },
-        Log {
-            name: "filling, then random",
-            bytes: generate::filling_log(&mut Rng::new(1), PROGRAM_LINEAR_WIDTH),
-        },
-        Log {
-            name: "creations only",
-            bytes: creation.repeat(LOG_LIMIT / creation.len()),
-        },
-        Log {
-            name: "filling, then VMXON/VMXOFF",
-            bytes: [filling, switches].concat(),
-        },
-    ]
-}
-
-/// A log of the generator that is neither cut nor damaged, with single-byte
-/// events added up to the limit.
-fn random() -> Vec<u8> {
-    for seed in 0.. {
-        let mut log = generate::log(&mut Rng::new(seed), PROGRAM_LINEAR_WIDTH, LOG_LIMIT - 32);
-        if log.len() <= LOG_LIMIT && is_whole(&log) {
-            log.resize(LOG_LIMIT, 22);
-            return log;
-        }
-    }
-    Vec::new()
-}
-
-fn is_whole(log: &[u8]) -> bool {
-    let mut rest = log;
-    while let Some(event) = model::replay::first_event(LinearWidth::Bits48, rest) {
-        rest = &rest[event.len()..];
-    }
-    rest.is_empty()
-}
-
-fn write_row(rows: &mut [u8], line: Line) {
-    let at = ROW * (line.number as usize - 1);
-    let numbers = [line.answer, line.dropped as u64, line.length as u64];
-    common::write_row(&mut rows[at..at + ROW], numbers);
-}
-
 /// The replay of a log. Its plain copy is that of each event's old table.
 pub fn item(log: Log, buffers: &Buffers, others: &Buffers) -> Result<Item, String> {
+    let due = expected(&log.bytes, buffers, others);
+    agree(&log, &due, buffers, others)?;
+    let (lengths, events) = (due.old_lengths(), due.lines.len());
     let bytes = Rc::new(log.bytes);
-    let lengths = lengths(&bytes, buffers, others);
-    let events = lengths.len();
-    agree(log.name, &bytes, events, buffers, others)?;
     let [a, c, e] = buffers.0.clone();
     let [b, d, f] = others.0.clone();
     Ok(Item {
@@ -98,44 +36,69 @@ pub fn item(log: Log, buffers: &Buffers, others: &Buffers) -> Result<Item, Strin
     })
 }
 
-/// The length of each event's old table.
-fn lengths(log: &[u8], buffers: &Buffers, others: &Buffers) -> Vec<usize> {
-    let mut lengths = vec![0];
-    let mut old = buffers.0[1].borrow_mut();
-    let mut new = others.0[1].borrow_mut();
-    let start = Context::program();
-    tuned::replay(&start, log, &mut old, &mut new, |line| {
-        lengths.push(line.length);
-    });
-    lengths.pop();
-    lengths
+/// What the tuned model reports and leaves of a log.
+struct Expected {
+    lines: Vec<Line>,
+    table: Vec<u8>,
 }
 
-fn agree(
-    name: &str,
-    log: &[u8],
-    events: usize,
-    buffers: &Buffers,
-    others: &Buffers,
-) -> Result<(), String> {
-    let mut rows = vec![0xA5; ROW * events];
-    let mut due = rows.clone();
-    let end = replay(
-        log,
-        &mut buffers.0[0].borrow_mut(),
-        &mut others.0[0].borrow_mut(),
-        &mut rows,
-    );
-    let mut old = buffers.0[1].borrow_mut();
-    let mut new = others.0[1].borrow_mut();
+impl Expected {
+    /// The length of each event's old table.
+    fn old_lengths(&self) -> Vec<usize> {
+        let mut lengths = vec![0];
+        lengths.extend(self.lines.iter().map(|line| line.length));
+        lengths.pop();
+        lengths
+    }
+
+    fn rows(&self) -> Vec<u8> {
+        let mut rows = vec![0; ROW * self.lines.len()];
+        for line in &self.lines {
+            write_row(&mut rows, *line);
+        }
+        rows
+    }
+}
+
+/// The table in force changes its buffer at each accepted event.
+fn expected(log: &[u8], buffers: &Buffers, others: &Buffers) -> Expected {
+    let mut first = buffers.0[1].borrow_mut();
+    let mut second = others.0[1].borrow_mut();
+    let mut lines = Vec::new();
     let start = Context::program();
-    tuned::replay(&start, log, &mut old, &mut new, |line| {
-        write_row(&mut due, line);
+    tuned::replay(&start, log, &mut first, &mut second, |line| {
+        lines.push(line);
     });
-    if rows != due || end.count != events {
+    let accepted = lines.iter().filter(|line| line.answer == 0).count();
+    let table = if accepted % 2 == 0 { &first } else { &second };
+    let length = lines.last().map_or(0, |line| line.length);
+    Expected {
+        table: table[..length].to_vec(),
+        lines,
+    }
+}
+
+/// The library's rows and its last table are the tuned model's.
+fn agree(log: &Log, due: &Expected, buffers: &Buffers, others: &Buffers) -> Result<(), String> {
+    let mut first = buffers.0[0].borrow_mut();
+    let mut second = others.0[0].borrow_mut();
+    let mut rows = vec![0xA5; ROW * due.lines.len()];
+    let end = replay(&log.bytes, &mut first, &mut second, &mut rows);
+    let table = if end.first == 1 { &first } else { &second };
+    let name = log.name;
+    if rows != due.rows() || end.count != due.lines.len() {
         return Err(format!("{name}: the library's rows are not the model's"));
     }
+    if table[..end.length] != due.table {
+        return Err(format!("{name}: the library's table is not the model's"));
+    }
     Ok(())
+}
+
+fn write_row(rows: &mut [u8], line: Line) {
+    let at = ROW * (line.number as usize - 1);
+    let numbers = [line.answer, line.dropped as u64, line.length as u64];
+    common::write_row(&mut rows[at..at + ROW], numbers);
 }
 
 fn replay(log: &[u8], first: &mut [u8], second: &mut [u8], rows: &mut [u8]) -> FlatReplayed {

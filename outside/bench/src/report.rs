@@ -60,21 +60,20 @@ fn line(series: &[&Row]) -> String {
 }
 
 fn replays(rows: &[Row]) -> String {
-    let mut out = String::from("\nreplay of a whole log\n");
+    let mut out = String::from("\nreplay of a whole log: ns an event\n");
     let _ = writeln!(
         out,
-        "{:<28}{:>8}{:>8}{:>12}{:>12}{:>12}{:>10}{:>9}{:>8}",
-        "log", "bytes", "events", "ours us", "tuned us", "copy us", "ns/event", "x tuned", "x copy"
+        "{:<36}{:>8}{:>8}{:>11}{:>11}{:>11}{:>9}{:>8}",
+        "log", "bytes", "events", "ours", "tuned", "copy", "x tuned", "x copy"
     );
     for row in rows.iter().filter(|row| row.what == What::Replay) {
-        let [ours, tuned, copy] = row.times.map(|time| time * row.events as f64 / 1e3);
+        let [ours, tuned, copy] = row.times;
         let _ = writeln!(
             out,
-            "{:<28}{:>8}{:>8}{ours:>12.1}{tuned:>12.1}{copy:>12.1}{:>10.1}{:>9.2}{:>8.2}",
+            "{:<36}{:>8}{:>8}{ours:>11.1}{tuned:>11.1}{copy:>11.1}{:>9.3}{:>8.2}",
             row.family,
             row.bytes,
             row.events,
-            row.ours(),
             row.to_tuned(),
             row.to_copy()
         );
