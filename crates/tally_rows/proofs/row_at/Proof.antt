@@ -3,9 +3,10 @@ use Prim.Native.Nat.{_+_}
 use mathlib.Core.Path.{_≡_}
 use native.Mathlib.Omega.{arith}
 use borrow.Author.Needs.{needs}
-use Rattle.tallies.specs.Tallies.{tabulate, row-from}
-use Rattle.tallies.proofs.row_at.Statement.{statement}
-use Rattle.tallies.proofs.row_at.Tie as tie
+use Rattle.tallies.specs.Tallies.{tabulate}
+use Rattle.tally_rows.specs.Rows.{row-from}
+use Rattle.tally_rows.proofs.row_at.Statement.{statement}
+use Rattle.tally_rows.proofs.row_at.Tie as tie
 
 returns : tie.Need-returns
 unfolding row-from tabulate

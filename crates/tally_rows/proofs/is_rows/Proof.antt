@@ -2,10 +2,11 @@
 use mathlib.Core.Path.{_≡_}
 use borrow.Author.Needs.{needs}
 use lib.ListN.{length}
-use Rattle.tallies.specs.Tallies.{tabulate, rows-of}
-use Rattle.tallies.specs.Laws.Rows.{same-six}
-use Rattle.tallies.proofs.is_rows.Statement.{statement}
-use Rattle.tallies.proofs.is_rows.Tie as tie
+use Rattle.tallies.specs.Tallies.{tabulate}
+use Rattle.tally_rows.specs.Rows.{rows-of}
+use Rattle.tally_rows.specs.Laws.Rows.{same-six}
+use Rattle.tally_rows.proofs.is_rows.Statement.{statement}
+use Rattle.tally_rows.proofs.is_rows.Tie as tie
 
 returns : tie.Need-returns
 unfolding rows-of tabulate

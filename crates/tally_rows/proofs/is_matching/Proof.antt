@@ -1,7 +1,7 @@
 -- Rows and PCIDs.
 use borrow.Author.Needs.{needs}
-use Rattle.tallies.proofs.is_matching.Statement.{statement}
-use Rattle.tallies.proofs.is_matching.Tie as tie
+use Rattle.tally_rows.proofs.is_matching.Statement.{statement}
+use Rattle.tally_rows.proofs.is_matching.Tie as tie
 
 returns : tie.Need-returns
 returns c = rw (c .before .is-rows .ensures, c .is-same .ensures)

@@ -4,9 +4,9 @@ use mathlib.Core.Path.{sym}
 use native.Mathlib.Omega.{arith}
 use borrow.Author.Needs.{needs}
 use lib.ListN.{length}
-use Rattle.tallies.specs.Laws.Lists.{Compared, compared-start, compared-next, compared-end, same-lengths}
-use Rattle.tallies.proofs.is_same.Statement.{statement}
-use Rattle.tallies.proofs.is_same.Tie as tie
+use Rattle.tally_rows.specs.Laws.Compared.{Compared, compared-start, compared-next, compared-end, same-lengths}
+use Rattle.tally_rows.proofs.is_same.Statement.{statement}
+use Rattle.tally_rows.proofs.is_same.Tie as tie
 
 abbrev Inv-loop : tie.InvT-loop
 Inv-loop a b all₀ at₀ all at = Compared a b at all

@@ -12,10 +12,12 @@ use Rattle.model.specs.Tables.{count}
 use Rattle.laws.specs.Lists.{Every}
 use Rattle.laws.specs.Mappings.{Valid, valid-starts, starts-parts}
 use Rattle.laws.specs.Tables.{only-agree, count-nil}
-use Rattle.tallies.specs.declared.KindCounts.{KindCounts}
-use Rattle.tallies.specs.Tallies.{tabulate, row-of, of-row, cell-of, kind-counts, cell-counts, row-from, rows-of, same, same-kinds}
-use Rattle.tallies.specs.Laws.Lists.{getD-tabulate, tabulate-agree, same-refl, same-true}
+use Rattle.tallies.specs.Tallies.{tabulate, row-of, cell-of, cell-counts}
+use Rattle.tallies.specs.Laws.Lists.{getD-tabulate, tabulate-agree}
 use Rattle.tallies.specs.Laws.Tallied.{span-below}
+use Rattle.tally_rows.specs.declared.KindCounts.{KindCounts}
+use Rattle.tally_rows.specs.Rows.{of-row, kind-counts, row-from, rows-of, same, same-kinds}
+use Rattle.tally_rows.specs.Laws.Compared.{same-refl, same-true}
 
 -- the cell of a record is that of a row and a span exactly if these are its own
 cell-eqb : (a s b t : ℕ) → s < 5 → t < 5 → eqb (5 * a + s) (5 * b + t) ≡ (eqb a b && eqb s t)

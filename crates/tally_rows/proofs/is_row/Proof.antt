@@ -4,10 +4,11 @@ use mathlib.Core.Path.{_≡_}
 use native.Mathlib.Omega.{arith}
 use borrow.Author.Needs.{needs}
 use lib.ListN.{length}
-use Rattle.tallies.specs.Tallies.{tabulate, row-from}
-use Rattle.tallies.specs.Laws.Rows.{same-five}
-use Rattle.tallies.proofs.is_row.Statement.{statement}
-use Rattle.tallies.proofs.is_row.Tie as tie
+use Rattle.tallies.specs.Tallies.{tabulate}
+use Rattle.tally_rows.specs.Rows.{row-from}
+use Rattle.tally_rows.specs.Laws.Rows.{same-five}
+use Rattle.tally_rows.proofs.is_row.Statement.{statement}
+use Rattle.tally_rows.proofs.is_row.Tie as tie
 
 returns : tie.Need-returns
 unfolding row-from tabulate
