@@ -37,7 +37,7 @@ fn walk(width: u64, table: &[u8], counting: bool, cells: &mut [u16], pcids: &mut
     let mut records = 0;
     while at < table.len() {
         let part = &table[at..];
-        let length = mappings::length_at(width, part);
+        let length = valid_records::length_at(width, part);
         if length == 0 {
             return Passed { bytes: at, records };
         }

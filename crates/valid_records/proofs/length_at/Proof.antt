@@ -5,9 +5,9 @@ use native.Mathlib.Omega.{arith}
 use borrow.Author.Tests.{ne-eqb}
 use denote.Ref.{now}
 use Rattle.model.specs.Layouts.{kind-of}
-use Rattle.mappings.specs.Laws.Lengths.{length-at-empty, length-at-48}
-use Rattle.mappings.proofs.length_at.Statement.{statement}
-use Rattle.mappings.proofs.length_at.Tie as tie
+use Rattle.valid_records.specs.Laws.Lengths.{length-at-empty, length-at-48}
+use Rattle.valid_records.proofs.length_at.Statement.{statement}
+use Rattle.valid_records.proofs.length_at.Tie as tie
 
 returns : tie.Need-returns
 returns c = sym (length-at-empty (c .before .before .args .width) (now (c .before .before .args .part)) (omega arith))

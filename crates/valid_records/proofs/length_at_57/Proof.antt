@@ -8,9 +8,9 @@ use denote.Ref.{now}
 use Rattle.model.specs.Layouts.{kind-of, mapping-kind, length-of}
 use Rattle.model.specs.Mappings.{Held, wide, other-width}
 use Rattle.laws.specs.Mappings.{record-length-short, record-length-held}
-use Rattle.mappings.specs.Laws.Lengths.{length-at-own, length-at-none}
-use Rattle.mappings.proofs.length_at_57.Statement.{statement}
-use Rattle.mappings.proofs.length_at_57.Tie as tie
+use Rattle.valid_records.specs.Laws.Lengths.{length-at-own, length-at-none}
+use Rattle.valid_records.proofs.length_at_57.Statement.{statement}
+use Rattle.valid_records.proofs.length_at_57.Tie as tie
 
 -- what the test of the kind says
 said : (c : tie.After-is-mapping-at) → c .is-mapping-at .result ≡ (mapping-kind (kind-of (now (c .before .before .args .part))) && not (other-width 57 (kind-of (now (c .before .before .args .part)))))

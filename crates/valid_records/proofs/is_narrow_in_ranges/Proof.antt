@@ -10,18 +10,18 @@ use lib.Dec.{eqb, leb, ltb}
 use lib.ListN.{length}
 use Rattle.model.specs.Mappings.{mapping, wide, span-in-range, page-in-range}
 use Rattle.laws.specs.Mappings.{held-length}
-use Rattle.mappings.specs.Laws.Ranges.{wide-span-tests, span-below, ranges-off, ranges-tests}
-use Rattle.mappings.proofs.is_wide_in_ranges.Statement.{statement}
-use Rattle.mappings.proofs.is_wide_in_ranges.Tie as tie
+use Rattle.valid_records.specs.Laws.Ranges.{narrow-span-tests, span-below, ranges-off, ranges-tests}
+use Rattle.valid_records.proofs.is_narrow_in_ranges.Statement.{statement}
+use Rattle.valid_records.proofs.is_narrow_in_ranges.Tie as tie
 
 -- what the test of the span says
 said : (c : tie.After-span)
-    → ((leb (c .before .kind .result) 8 && leb (c .span .result) 2) || (not (leb (c .before .kind .result) 8) && (leb 1 (c .span .result) && leb (c .span .result) 4)))
+    → ((leb (c .before .kind .result) 3 && leb (c .span .result) 2) || (not (leb (c .before .kind .result) 3) && (leb 1 (c .span .result) && leb (c .span .result) 3)))
     ≡ span-in-range (mapping (now (c .before .before .before .args .part)) .kind) (mapping (now (c .before .before .before .args .part)) .span)
 unfolding mapping
 said c =
     let s = c .before .before .before in
-    rw (c .before .kind .ensures, c .span .ensures) (wide-span-tests (mapping (now (s .args .part)) .kind) (mapping (now (s .args .part)) .span) (s .pre .0 .known) (s .pre .1))
+    rw (c .before .kind .ensures, c .span .ensures) (narrow-span-tests (mapping (now (s .args .part)) .kind) (mapping (now (s .args .part)) .span) (s .pre .0 .known) (s .pre .1))
 
 returns : tie.Need-returns
 returns c = sym (ranges-off _ (sym (said (c .before)) ∙ not-true _ (c .if1 .taken)))
@@ -33,7 +33,7 @@ number2-requires : tie.Need-number2-requires
 number2-requires c κs = omega (arith, held-length _ (c .before .before .before .before .before .pre .0))
 
 -- where the page stands
-page-fits : tie.Need-number6-requires
+page-fits : tie.Need-number5-requires
 unfolding mapping
 page-fits c κs = omega (arith, rw (c .before .before .before .before .before .before .before .pre .1) at (c .span-at .ensures .fits))
 
@@ -50,8 +50,8 @@ unfolding mapping
 returns-2 c =
     let e = c .before .before .before .before .before .before .before in
     let s = e .before .before .before .before in
-    let page = c .before .before .before .number6 .ensures .0 ∙ rw (s .pre .1) at (c .before .before .before .before .span-at .ensures .page) in
-    let limit : (ltb (mapping (now (s .args .part)) .page) 35184372088832 && eqb (mapping (now (s .args .part)) .page % 2 ^ (9 * mapping (now (s .args .part)) .span)) 0)
+    let page = c .before .before .before .number5 .ensures .0 ∙ rw (s .pre .1) at (c .before .before .before .before .span-at .ensures .page) in
+    let limit : (ltb (mapping (now (s .args .part)) .page) 68719476736 && eqb (mapping (now (s .args .part)) .page % 2 ^ (9 * mapping (now (s .args .part)) .span)) 0)
     ≡ page-in-range (mapping (now (s .args .part)) .kind) (mapping (now (s .args .part)) .span) (mapping (now (s .args .part)) .page) = rw (s .pre .1) refl in
     rw (
       c .is-page .ensures,
@@ -66,8 +66,8 @@ returns-2 c =
     )
     (ranges-tests _ (s .pre .0) (on e))
 
-pub is-wide-in-ranges-spec : {M : Type 1} → statement M
-is-wide-in-ranges-spec =
+pub is-narrow-in-ranges-spec : {M : Type 1} → statement M
+is-narrow-in-ranges-spec =
     tie.close
     (tie.spec
     (λ c κs. search needs)

@@ -6,8 +6,8 @@ use native.Mathlib.Nat.{one-mul}
 use native.Mathlib.Omega.{arith}
 use lib.Dec.{lit<}
 use lib.Pow.{shl-exact, pow-pos}
-use Rattle.mappings.proofs.is_page.Statement.{statement}
-use Rattle.mappings.proofs.is_page.Tie as tie
+use Rattle.valid_records.proofs.is_page.Statement.{statement}
+use Rattle.valid_records.proofs.is_page.Tie as tie
 
 -- 1 shifted by fewer bits than a word has
 shifted : (k : ℕ) → k < 64 → 1 * 2 ^ k % 2 ^ 64 ≡ 2 ^ k

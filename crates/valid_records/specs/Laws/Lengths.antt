@@ -9,7 +9,7 @@ use lib.ListN.{length}
 use Rattle.model.specs.Layouts.{kind-of, mapping-kind}
 use Rattle.model.specs.Mappings.{wide, other-width, record-length}
 use Rattle.laws.specs.Mappings.{record-length-unknown, record-length-le}
-use Rattle.mappings.specs.Lengths.{length-at}
+use Rattle.valid_records.specs.Lengths.{length-at}
 
 module _ (w : ℕ) (r : List ℕ) where
   pub length-at-own : other-width w (kind-of r) ≡ false → length-at w r ≡ record-length r

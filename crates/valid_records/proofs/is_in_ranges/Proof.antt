@@ -3,8 +3,8 @@ use borrow.Author.Needs.{needs}
 use denote.Ref.{now}
 use Rattle.model.specs.Layouts.{kind-of}
 use Rattle.model.specs.Mappings.{mapping, wide}
-use Rattle.mappings.proofs.is_in_ranges.Statement.{statement}
-use Rattle.mappings.proofs.is_in_ranges.Tie as tie
+use Rattle.valid_records.proofs.is_in_ranges.Statement.{statement}
+use Rattle.valid_records.proofs.is_in_ranges.Tie as tie
 
 -- what the test of the kind says
 said : (c : tie.After-is-wide) → c .is-wide .result ≡ wide (kind-of (now (c .before .before .before .args .part)))

@@ -5,10 +5,10 @@ use mathlib.Core.List.{List}
 use mathlib.Core.Path.{_≡_, refl, sym}
 use native.Mathlib.Omega.{arith}
 use borrow.Author.Tests.{leb-true}
-use lib.Dec.{eqb, leb, leb·zero}
+use lib.Dec.{leb, leb·zero}
 use Rattle.model.specs.Bits.{number}
-use Rattle.model.specs.Layouts.{kind-of, mapping-kind}
-use Rattle.model.specs.Mappings.{mapping, Held, guest-physical, structure-cache, wide, global-marked, global-translation, span-in-range, page-in-range, fields-in-range}
+use Rattle.model.specs.Layouts.{mapping-kind}
+use Rattle.model.specs.Mappings.{mapping, Held, guest-physical, structure-cache, wide, global-marked, span-in-range, page-in-range, fields-in-range}
 use Rattle.model.specs.declared.Mapping.{Mapping}
 use Rattle.laws.specs.Layouts.{of-mapping-kind, agrees, agrees-true}
 use Rattle.laws.specs.Mappings.{pcid-held, global-held}
@@ -53,14 +53,10 @@ pub ranges-off : (m : Mapping) → span-in-range (m .kind) (m .span) ≡ false �
 unfolding fields-in-range
 ranges-off m off = rw (off, and-false)
 
--- a field that a kind lacks is 0, and so in its range and no mark
+-- a field that a kind lacks is 0, and so in its range
 leb-where : (b : Bool) (x n : ℕ) → (not b || leb x n) ≡ leb (cond b x 0) n
 leb-where true x n = refl
 leb-where false x n = sym (leb·zero n)
-
-eqb-and : (b : Bool) (x : ℕ) → (b && eqb x 1) ≡ (b && eqb (cond b x 0) 1)
-eqb-and true x = refl
-eqb-and false x = refl
 
 module _ (r : List ℕ) (held : Held r) where
   -- the other fields' ranges, by tests of the kind and of the bytes where some kinds have the fields
@@ -80,7 +76,3 @@ module _ (r : List ℕ) (held : Held r) where
         pcid-held r held,
         and-true,
       )
-
-  pub global-tests : (global-marked (mapping r .kind) && eqb (number 1 5 r) 1) ≡ global-translation (mapping r)
-  unfolding mapping
-  global-tests = rw (global-held r held) (eqb-and (global-marked (kind-of r)) (number 1 5 r))
