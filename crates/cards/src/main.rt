@@ -13,7 +13,7 @@ use model::Address;
 use skuldrefn::FlatKinds;
 use skuldrefn::FlatPart;
 use skuldrefn::FlatStep;
-use tallies::KindCounts;
+use tally_rows::KindCounts;
 ghost use Prim.Native.Nat.{_+_, _<_, _≤_};
 ghost use lib.ListN.{length};
 

@@ -10,8 +10,9 @@ use Rattle.model.specs.declared.Context.{Context}
 use Rattle.model.specs.Layouts.{kind-of, mapping-kind}
 use Rattle.model.specs.Tables.{limit, records, count}
 use Rattle.laws.specs.Lists.{Every}
-use Rattle.tallies.specs.declared.KindCounts.{KindCounts}
-use Rattle.tallies.specs.Tallies.{tabulate, of-row, of-pcid, kind-counts, pcid-counts}
+use Rattle.tallies.specs.Tallies.{tabulate, of-pcid, pcid-counts}
+use Rattle.tally_rows.specs.declared.KindCounts.{KindCounts}
+use Rattle.tally_rows.specs.Rows.{of-row, kind-counts}
 use Rattle.counted_steps.specs.declared.CountedStep.{CountedStep}
 use Rattle.counted_steps.specs.Steps.{counted-stepped, counted-pcids, counted-written}
 use Rattle.runs.specs.Book.{Report, opened, book-table, book-reports, book-of}

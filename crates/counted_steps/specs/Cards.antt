@@ -19,9 +19,10 @@ use Rattle.model.specs.Events.{canonical, operands, entry, event, event-in-rang
 use Rattle.model.specs.Scopes.{invvpid-tests, has-scope, scope}
 use Rattle.model.specs.Answers.{first, good-eptp, eptp-rule, own-rule, rule-with, invvpid-supported, bad-invvpid, invept-supported, bad-invept, invalid-opcode, exits, general-protection, bad-entry, creatable, own-ground, created, no-room, valid-table, valid-here, table-grounds, event-grounds, grounds, answer}
 use Rattle.model.specs.Steps.{new-table, refusal, refused-step}
-use Rattle.tallies.specs.declared.KindCounts.{KindCounts}
-use Rattle.tallies.specs.Tallies.{tabulate, row-of, of-row, of-pcid, kind-counts, pcid-counts, same, same-kinds, matching}
+use Rattle.tallies.specs.Tallies.{tabulate, row-of, of-pcid, pcid-counts}
 use Rattle.tallies.specs.Laws.Lists.{getD-tabulate, length-tabulate}
+use Rattle.tally_rows.specs.declared.KindCounts.{KindCounts}
+use Rattle.tally_rows.specs.Rows.{of-row, kind-counts, same, same-kinds, matching}
 use Rattle.counted_steps.specs.Steps.{counted-grounds, counted-answer, counted-stepped, counted-pcids, counted-written}
 use Rattle.counted_steps.specs.Laws.Steps.{counted-of-other, counted-answer-matching, matching-counts, counts-matching, counts-accepted}
 

@@ -10,8 +10,9 @@ use Rattle.model.specs.Tables.{records}
 use Rattle.model.specs.Events.{event}
 use Rattle.model.specs.Answers.{first, valid-here, table-grounds, event-grounds, no-room}
 use Rattle.model.specs.Steps.{new-table, accepted-step, refusal, refused-step}
-use Rattle.tallies.specs.declared.KindCounts.{KindCounts}
-use Rattle.tallies.specs.Tallies.{kind-counts, pcid-counts, matching}
+use Rattle.tallies.specs.Tallies.{pcid-counts}
+use Rattle.tally_rows.specs.declared.KindCounts.{KindCounts}
+use Rattle.tally_rows.specs.Rows.{kind-counts, matching}
 use Rattle.counted_steps.specs.declared.CountedStep.{CountedStep}
 
 -- the grounds of a context, a tally, an old table, an event and the length of the new buffer: "A tally that doesn't

@@ -2,7 +2,7 @@
 use model::Context;
 use model::EventReading;
 use model::Step;
-use tallies::KindCounts;
+use tally_rows::KindCounts;
 ghost use mathlib.Core.Path.{_≡_};
 ghost use lib.ListN.{length};
 ghost use Rattle.counted_steps.specs.Steps.{counted-refusal, counted-stepped, counted-pcids, counted-written};
@@ -71,6 +71,6 @@ pub fn counted_step(
     );
     CountedStep {
         step,
-        kinds: tallies::update(kinds, &cells),
+        kinds: tally_rows::update(kinds, &cells),
     }
 }

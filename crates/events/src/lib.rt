@@ -103,7 +103,7 @@ fn is_in_range(width: u64, e: &[u8], x: Event) -> bool
 {
     match x {
         Event::Creation(_) => {
-            mappings::is_in_ranges(e) & !kinds::is_of_other_width(width, mappings::kind(e))
+            valid_records::is_in_ranges(e) & !kinds::is_of_other_width(width, mappings::kind(e))
         }
         Event::EptViolation(v) => {
             (v.physical < model::GUEST_PHYSICAL_LIMIT)

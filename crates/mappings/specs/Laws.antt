@@ -1,5 +1,2 @@
--- The laws of held records: where span, page, frame and EP4TA stand, and which tests say that the fields are
--- in their ranges.
+-- The laws of held records: where span, page, frame and EP4TA stand, and the global mark.
 pub mod Places
-pub mod Ranges
-pub mod Lengths

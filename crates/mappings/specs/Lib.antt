@@ -1,3 +1,2 @@
 pub mod Spans
-pub mod Lengths
 pub mod Laws

@@ -5,7 +5,7 @@ use model::Address;
 use model::Context;
 use model::Place;
 use model::Step;
-use tallies::KindCounts;
+use tally_rows::KindCounts;
 use widening::Widened;
 ghost use mathlib.Core.Path.{_≡_};
 ghost use lib.ListN.{length};

@@ -6,8 +6,9 @@ use lib.Dec.{eqb}
 use lib.ListN.{length, replicate}
 use Rattle.model.specs.Tables.{records}
 use Rattle.model.specs.Answers.{first, stored-grounds}
-use Rattle.tallies.specs.declared.KindCounts.{KindCounts}
-use Rattle.tallies.specs.Tallies.{kind-counts, pcid-counts, cell-counts, matching}
+use Rattle.tallies.specs.Tallies.{pcid-counts, cell-counts}
+use Rattle.tally_rows.specs.declared.KindCounts.{KindCounts}
+use Rattle.tally_rows.specs.Rows.{kind-counts, matching}
 use Rattle.tables.specs.declared.CountedJudged.{CountedJudged}
 use Rattle.tables.specs.declared.TableCounts.{TableCounts}
 

@@ -1,6 +1,6 @@
 // The walk over a table: whole, valid records of a linear width or not, and the answers 1 to 3.
 use model::Context;
-use tallies::KindCounts;
+use tally_rows::KindCounts;
 ghost use mathlib.Core.Path.{_≡_};
 ghost use mathlib.Core.Bool.{true};
 ghost use mathlib.Core.List.{[]};
@@ -37,7 +37,7 @@ fn walk(width: u64, table: &[u8], counting: bool, cells: &mut [u16], pcids: &mut
     let mut records = 0;
     while at < table.len() {
         let part = &table[at..];
-        let length = mappings::length_at(width, part);
+        let length = valid_records::length_at(width, part);
         if length == 0 {
             return Passed { bytes: at, records };
         }
@@ -124,7 +124,7 @@ pub fn judge_counted(
     CountedJudged {
         answer: 0,
         records: judged.records,
-        matching: tallies::is_matching(kinds, pcids, &cells, &fresh),
+        matching: tally_rows::is_matching(kinds, pcids, &cells, &fresh),
         cells,
     }
 }
@@ -141,7 +141,7 @@ fn not_counted(answer: u64) -> TableCounts
 {
     TableCounts {
         answer,
-        kinds: tallies::no_rows(),
+        kinds: tally_rows::no_rows(),
     }
 }
 
@@ -163,7 +163,7 @@ pub fn count(width: u64, table: &[u8], pcids: &mut [u16]) -> TableCounts
     tallies::copy(&fresh, pcids);
     TableCounts {
         answer: 0,
-        kinds: tallies::update(tallies::no_rows(), &cells),
+        kinds: tally_rows::update(tally_rows::no_rows(), &cells),
     }
 }
 

@@ -9,7 +9,6 @@ use lib.ListN.{length, getD, set}
 use Rattle.model.specs.declared.Mapping.{Mapping}
 use Rattle.model.specs.Mappings.{mapping, Held, linear, guest-physical, structure-cache}
 use Rattle.model.specs.Tables.{count}
-use Rattle.tallies.specs.declared.KindCounts.{KindCounts}
 
 -- the values of a function at 0 up to, and not at, a number
 unfoldable pub tabulate : {A : Type 0} → ℕ → (ℕ → A) → List A
@@ -20,36 +19,12 @@ tabulate (suc n) f = f 0 ∷ tabulate n (λ i. f (suc i))
 unfoldable pub row-of : ℕ → ℕ
 row-of kind = cond (linear kind) 0 (cond (guest-physical kind) 1 2) + cond (structure-cache kind) 3 0
 
--- a record is counted in a row under a span
-unfoldable pub of-row : ℕ → ℕ → List ℕ → Bool
-of-row row span r = eqb (row-of (mapping r .kind)) row && eqb (mapping r .span) span
-
 -- a record is counted under a PCID; a global one under its own
 unfoldable pub of-pcid : ℕ → List ℕ → Bool
 of-pcid pcid r = not (guest-physical (mapping r .kind)) && eqb (mapping r .pcid) pcid
 
-unfoldable pub kind-counts : List (List ℕ) → List KindCounts
-kind-counts rs = tabulate 6 (λ row. record { spans = tabulate 5 (λ span. count (of-row row span) rs) })
-
 unfoldable pub pcid-counts : List (List ℕ) → List ℕ
 pcid-counts rs = tabulate 4096 (λ pcid. count (of-pcid pcid) rs)
-
--- two lists of counts are the same
-unfoldable pub same : List ℕ → List ℕ → Bool
-same [] [] = true
-same [] (y ∷ ys) = false
-same (x ∷ xs) [] = false
-same (x ∷ xs) (y ∷ ys) = eqb x y && same xs ys
-
-unfoldable pub same-kinds : List KindCounts → List KindCounts → Bool
-same-kinds [] [] = true
-same-kinds [] (y ∷ ys) = false
-same-kinds (x ∷ xs) [] = false
-same-kinds (x ∷ xs) (y ∷ ys) = same (x .spans) (y .spans) && same-kinds xs ys
-
--- a tally matches some records: every count is theirs, the impossible ones too, and there are 4,096 PCIDs
-unfoldable pub matching : List KindCounts → List ℕ → List (List ℕ) → Bool
-matching kinds pcids rs = same-kinds kinds (kind-counts rs) && same pcids (pcid-counts rs)
 
 -- the cell of a record among the thirty counts of rows and spans, row by row
 unfoldable pub cell-of : Mapping → ℕ
@@ -117,10 +92,3 @@ pub record Counted (part cells pcids : List ℕ) : Type 0 where
   pub some : 0 < getD cells (cell-of (mapping part)) 0
   pub pcid-place : mapping part .pcid < length pcids
   pub pcid-some : by-pcid (mapping part .kind) ≤ getD pcids (mapping part .pcid) 0
-
--- the five counts from a place on, as a row; and all rows
-unfoldable pub row-from : List ℕ → ℕ → KindCounts
-row-from cells at = record { spans = tabulate 5 (λ span. getD cells (at + span) 0) }
-
-unfoldable pub rows-of : List ℕ → List KindCounts
-rows-of cells = tabulate 6 (λ row. row-from cells (5 * row))

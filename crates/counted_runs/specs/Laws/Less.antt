@@ -6,9 +6,10 @@ use mathlib.Core.Path.{_≡_, ap, _∙_}
 use native.Mathlib.Omega.{arith}
 use lib.ListN.{getD}
 use Rattle.model.specs.Tables.{count}
-use Rattle.tallies.specs.declared.KindCounts.{KindCounts}
-use Rattle.tallies.specs.Tallies.{tabulate, of-row, of-pcid, kind-counts, pcid-counts}
+use Rattle.tallies.specs.Tallies.{tabulate, of-pcid, pcid-counts}
 use Rattle.tallies.specs.Laws.Lists.{tabulate-agree, getD-tabulate}
+use Rattle.tally_rows.specs.declared.KindCounts.{KindCounts}
+use Rattle.tally_rows.specs.Rows.{of-row, kind-counts}
 use Rattle.laws.specs.Tables.{count-nil, count-cons}
 use Rattle.runs.specs.Runs.{without}
 use Rattle.counted_runs.specs.Runs.{taken-out, kinds-less, pcids-less}

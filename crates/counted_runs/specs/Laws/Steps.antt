@@ -9,14 +9,15 @@ use Rattle.model.specs.declared.Step.{Step}
 use Rattle.model.specs.Tables.{records}
 use Rattle.model.specs.Steps.{stepped}
 use Rattle.laws.specs.Tables.{records-nil, records-valid, records-joined}
-use Rattle.tallies.specs.Tallies.{kind-counts, pcid-counts, matching}
+use Rattle.tallies.specs.Tallies.{pcid-counts}
+use Rattle.tally_rows.specs.Rows.{kind-counts, matching}
 use Rattle.counted_steps.specs.Steps.{counted-answer, counted-stepped, counted-pcids}
 use Rattle.counted_steps.specs.Laws.Steps.{counted-answer-matching, counts-matching, counted-stepped-matching, counted-written-matching, counts-accepted, counts-refused}
 use Rattle.runs.specs.Runs.{Run, started, report, without, run-answer, run-written, run-after, run-report, run-without}
 use Rattle.runs.specs.Laws.Steps.{by-answer, run-answer-is, run-after-accepted, run-after-refused}
 use Rattle.runs.specs.Laws.Parts.{every-without}
 use Rattle.counted_runs.specs.Runs.{CountedRun, Fresh, counted-started, counted-result, counted-after, counted-without}
-use Rattle.tallies.specs.Laws.Rows.{kind-counts-nil}
+use Rattle.tally_rows.specs.Laws.Rows.{kind-counts-nil}
 use Rattle.counted_runs.specs.Laws.Less.{pcid-counts-nil, kinds-less-taken, pcids-less-taken}
 
 pub fresh-started : (c : Context) (a b : List ℕ) → Fresh (counted-started c a b)

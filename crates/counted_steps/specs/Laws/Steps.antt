@@ -15,10 +15,11 @@ use Rattle.model.specs.Answers.{first, valid-here, table-grounds, event-grounds
 use Rattle.model.specs.Steps.{new-table, accepted-step, refused-step, stepped, written}
 use Rattle.laws.specs.Answers.{first-append, first-append-some, first-append-none}
 use Rattle.laws.specs.Tables.{records-valid}
-use Rattle.tallies.specs.declared.KindCounts.{KindCounts}
-use Rattle.tallies.specs.Tallies.{Tallied, kind-counts, pcid-counts, matching, same, same-kinds, rows-of}
-use Rattle.tallies.specs.Laws.Lists.{same-refl, same-true}
-use Rattle.tallies.specs.Laws.Rows.{kind-counts-rows, same-kinds-refl, same-kinds-true}
+use Rattle.tallies.specs.Tallies.{Tallied, pcid-counts}
+use Rattle.tally_rows.specs.declared.KindCounts.{KindCounts}
+use Rattle.tally_rows.specs.Rows.{kind-counts, matching, same, same-kinds, rows-of}
+use Rattle.tally_rows.specs.Laws.Compared.{same-refl, same-true}
+use Rattle.tally_rows.specs.Laws.Rows.{kind-counts-rows, same-kinds-refl, same-kinds-true}
 use Rattle.steps.specs.Counts.{records-after}
 use Rattle.counted_steps.specs.declared.CountedStep.{CountedStep}
 use Rattle.counted_steps.specs.Steps.{counted-grounds, counted-answer, counted-refusal, counted-stepped, counted-pcids, counted-written}

@@ -2,7 +2,7 @@
 use borrow.Author.Needs.{needs}
 use native.Mathlib.Omega.{arith}
 use Rattle.laws.specs.Mappings.{held-length}
-use Rattle.mappings.specs.Laws.Ranges.{global-tests}
+use Rattle.mappings.specs.Laws.Places.{global-tests}
 use Rattle.mappings.proofs.is_global_translation.Statement.{statement}
 use Rattle.mappings.proofs.is_global_translation.Tie as tie
 

@@ -1,6 +1,6 @@
 -- Where the fields of a held record stand.
 use Prim.Native.Nat.{ℕ, _+_, _≤_}
-use mathlib.Core.Bool.{Bool, true, false, cond}
+use mathlib.Core.Bool.{Bool, true, false, cond, _&&_}
 use mathlib.Core.List.{List}
 use mathlib.Core.Path.{_≡_, refl, sym}
 use native.Mathlib.Nat.{le-trans}
@@ -9,8 +9,9 @@ use lib.Dec.{eqb, leb}
 use lib.ListN.{length}
 use Rattle.model.specs.Bits.{number}
 use Rattle.model.specs.Layouts.{Field, mapping-bodies, kind-of, body-of, length-of}
-use Rattle.model.specs.Mappings.{mapping, wide, Held}
+use Rattle.model.specs.Mappings.{mapping, wide, Held, global-marked, global-translation}
 use Rattle.laws.specs.Layouts.{at-rows, of-mapping-kind, has-field, lacks-field, field-has, field-lacks}
+use Rattle.laws.specs.Mappings.{global-held}
 use Rattle.kinds.specs.Places.{place-of}
 use Rattle.mappings.specs.Spans.{page-bytes, SpanAt}
 
@@ -20,6 +21,11 @@ read-where is says holds same = rw (is, ← says, holds) same
 
 pub none-where : {b test : Bool} {f : ℕ} (y : ℕ) → f ≡ cond test y 0 → b ≡ test → b ≡ false → 0 ≡ f
 none-where y is says fails = rw (is, ← says, fails)
+
+-- a mark that a kind lacks is 0, and so no mark
+eqb-and : (b : Bool) (x : ℕ) → (b && eqb x 1) ≡ (b && eqb (cond b x 0) 1)
+eqb-and true x = refl
+eqb-and false x = refl
 
 module _ (r : List ℕ) (held : Held r) where
   -- a test computed over the rows holds of its kind
@@ -55,3 +61,8 @@ module _ (r : List ℕ) (held : Held r) where
   pub ep4ta-some : (place-of Field.ep4ta (kind-of r) ≡ 0 → ⊥) → number 5 (place-of Field.ep4ta (kind-of r)) r ≡ mapping r .ep4ta
   unfolding mapping
   ep4ta-some some = sym (field-has Field.ep4ta 5 _ r (rw (ne-eqb (place-of Field.ep4ta (kind-of r)) 0 some) at ep4ta-by-place))
+
+  -- the mark, by a test of the kind and of the byte where some kinds have it
+  pub global-tests : (global-marked (mapping r .kind) && eqb (number 1 5 r) 1) ≡ global-translation (mapping r)
+  unfolding mapping
+  global-tests = rw (global-held r held) (eqb-and (global-marked (kind-of r)) (number 1 5 r))

@@ -12,9 +12,10 @@ use Rattle.model.specs.Answers.{first, stored-grounds}
 use Rattle.laws.specs.Lists.{none}
 use Rattle.laws.specs.Tables.{records-valid}
 use Rattle.laws.specs.Answers.{first-append-some, first-append-none}
-use Rattle.tallies.specs.declared.KindCounts.{KindCounts}
-use Rattle.tallies.specs.Tallies.{Tallied, kind-counts, cell-counts, matching, same, same-kinds, rows-of}
-use Rattle.tallies.specs.Laws.Rows.{kind-counts-rows}
+use Rattle.tallies.specs.Tallies.{Tallied, cell-counts}
+use Rattle.tally_rows.specs.declared.KindCounts.{KindCounts}
+use Rattle.tally_rows.specs.Rows.{kind-counts, matching, same, same-kinds, rows-of}
+use Rattle.tally_rows.specs.Laws.Rows.{kind-counts-rows}
 use Rattle.tables.specs.declared.CountedJudged.{CountedJudged}
 use Rattle.tables.specs.declared.TableCounts.{TableCounts}
 use Rattle.tables.specs.Judged.{judged-records}

@@ -13,8 +13,8 @@ use Rattle.model.specs.Tables.{joined, records, whole, of-width}
 use Rattle.model.specs.Answers.{valid-table}
 use Rattle.laws.specs.Mappings.{kind-of-take}
 use Rattle.laws.specs.Tables.{rest-of-drop, records-none, records-drop-end, length-joined-cons, Next, next-of-length}
-use Rattle.mappings.specs.Lengths.{length-at}
-use Rattle.mappings.specs.Laws.Lengths.{length-at-own, length-at-other}
+use Rattle.valid_records.specs.Lengths.{length-at}
+use Rattle.valid_records.specs.Laws.Lengths.{length-at-own, length-at-other}
 use Rattle.tables.specs.Walk.{Tells}
 
 -- up to the position stand so many whole, valid records of the linear width: the bytes and the records of the table are

@@ -1,0 +1,3 @@
+-- Laws of rows.
+pub mod Compared
+pub mod Rows

@@ -1,0 +1,54 @@
+-- The length of a record of a linear width, by the width of its kind.
+use Prim.Native.Nat.{ℕ}
+use mathlib.Core.Bool.{Bool, true, false, cond, not, _&&_, false≢true}
+use mathlib.Core.List.{List}
+use mathlib.Core.Path.{_≡_, refl, sym, _∙_}
+use native.Mathlib.Omega.{arith}
+use lib.Dec.{eqb}
+use lib.ListN.{length}
+use Rattle.model.specs.Layouts.{kind-of, mapping-kind}
+use Rattle.model.specs.Mappings.{wide, other-width, record-length}
+use Rattle.laws.specs.Mappings.{record-length-unknown, record-length-le}
+use Rattle.valid_records.specs.Lengths.{length-at}
+
+module _ (w : ℕ) (r : List ℕ) where
+  pub length-at-own : other-width w (kind-of r) ≡ false → length-at w r ≡ record-length r
+  unfolding length-at
+  length-at-own own = rw own
+
+  pub length-at-other : other-width w (kind-of r) ≡ true → length-at w r ≡ 0
+  unfolding length-at
+  length-at-other other = rw other
+
+  -- 0 where the kind is no mapping's of that width
+  pub length-at-none : (mapping-kind (kind-of r) && not (other-width w (kind-of r))) ≡ false → length-at w r ≡ 0
+  unfolding length-at
+  length-at-none h = go (mapping-kind (kind-of r)) (other-width w (kind-of r)) refl h
+    where
+      go : (known other : Bool) → mapping-kind (kind-of r) ≡ known → (known && not other) ≡ false → cond other 0 (record-length r) ≡ 0
+      go known true k h = refl
+      go true false k h = absurd (false≢true (sym h))
+      go false false k h = record-length-unknown r k
+
+-- nor is there one in no bytes
+pub length-at-empty : (w : ℕ) (r : List ℕ) → length r ≡ 0 → length-at w r ≡ 0
+unfolding length-at
+length-at-empty w r none = go (other-width w (kind-of r))
+  where
+    go : (b : Bool) → cond b 0 (record-length r) ≡ 0
+    go true = refl
+    go false = omega (arith, record-length-le r)
+
+-- every width but 57 is read as 48
+pub other-width-48 : (w k : ℕ) → eqb w 57 ≡ false → other-width w k ≡ other-width 48 k
+unfolding other-width
+other-width-48 w k other = rw other
+
+pub length-at-48 : (w : ℕ) (r : List ℕ) → eqb w 57 ≡ false → length-at w r ≡ length-at 48 r
+unfolding length-at
+length-at-48 w r other = rw (other-width-48 w (kind-of r) other)
+
+-- a kind of 48 bits is not wide
+pub not-wide : (k : ℕ) → other-width 48 k ≡ false → wide k ≡ false
+unfolding other-width
+not-wide k own = own
