@@ -9,7 +9,7 @@ ghost use Rattle.model.specs.Bits.{bit};
 ghost use Rattle.model.specs.Layouts.{Field, mapping-kind, event-kind, length-of};
 ghost use Rattle.model.specs.Mappings.{linear, guest-physical, combined, structure-cache, wide, other-width, global-marked};
 ghost use Rattle.laws.specs.Layouts.{in-set};
-ghost use Rattle.kinds.specs.Places.{number-at, place-of};
+ghost use Rattle.kinds.specs.Places.{number-at, shape-at, place-of};
 
 // Numbers by kind, five bits for each, the first kind's in the lowest: how long a record or event is, of kinds 0 to 11
 // and 16 to 27. An unknown kind has 0.
@@ -17,13 +17,11 @@ const LENGTHS: u64 = 0x005A_3795_630B_4620;
 
 const LENGTHS_FROM_16: u64 = 0x01E4_2408_4709_2739;
 
-// The lengths of kinds 1 to 6 once more, a byte for each, which the walk over a table reads a little faster.
-const NARROW_LENGTHS: u64 = 0x0015_1110_1611_1100;
+// The shape of a mapping's record, four bits for each kind: by how many bytes it is longer than 16, and in the highest
+// bit whether its span stands at 6 and not at 5.
+const SHAPES: u64 = 0x061F_A590_E990;
 
-// Where the span of a mapping's record stands, in five bits for each kind.
-const SPANS: u64 = 0x0014_A631_4C53_18C0;
-
-// Where its EP4TA stands, in the same way; 0 where it has none.
+// Where the EP4TA of a mapping's record stands, in five bits for each kind; 0 where it has none.
 const EP4TAS: u64 = 0x0044_1204_0208_8400;
 
 // Sets of kinds, bit k for kind k.
@@ -31,8 +29,14 @@ const LINEAR: u64 = 0x292;
 
 const COMBINED: u64 = 0x548;
 
-// Those whose linear addresses have 48 bits.
+const GUEST_PHYSICAL: u64 = 0x24;
+
+const GLOBAL_MARKED: u64 = 0x18A;
+
+// Those whose linear addresses have 48 bits, and those of a 57-bit table.
 const NARROW: u64 = 0x5A;
+
+const OF_57: u64 = 0x7A4;
 
 // The number at a place among such numbers.
 fn number_at(numbers: u64, place: u64) -> usize
@@ -40,6 +44,14 @@ fn number_at(numbers: u64, place: u64) -> usize
     ensures { λ r. ⌜ r ≡ number-at numbers place ⌝ }
 {
     ((numbers >> (5 * place)) % 32) as usize
+}
+
+// The shape at a place among such shapes.
+fn shape_at(shapes: u64, place: u64) -> u64
+    requires { ⌜ place < 12 ⌝ }
+    ensures { λ r. ⌜ r ≡ shape-at shapes place ⌝ }
+{
+    (shapes >> (4 * place)) % 16
 }
 
 // The kind is in a set of kinds.
@@ -78,7 +90,7 @@ pub fn is_linear(kind: u64) -> bool
 pub fn is_guest_physical(kind: u64) -> bool
     ensures { λ r. ⌜ r ≡ guest-physical kind ⌝ }
 {
-    (kind == 2) | (kind == 5)
+    is_in(GUEST_PHYSICAL, kind)
 }
 
 // The kind is a combined mapping's.
@@ -99,7 +111,7 @@ pub fn is_structure_cache(kind: u64) -> bool
 pub fn is_global_marked(kind: u64) -> bool
     ensures { λ r. ⌜ r ≡ global-marked kind ⌝ }
 {
-    ((kind == 1) | (kind == 3)) | ((7 <= kind) & (kind <= 8))
+    is_in(GLOBAL_MARKED, kind)
 }
 
 // The kind's linear addresses have 57 bits.
@@ -114,7 +126,7 @@ pub fn is_mapping_at(width: u64, kind: u64) -> bool
     ensures { λ r. ⌜ r ≡ (mapping-kind kind && not (other-width width kind)) ⌝ }
 {
     if width == 57 {
-        return is_guest_physical(kind) | is_wide(kind);
+        return is_in(OF_57, kind);
     }
     (1 <= kind) & (kind <= 6)
 }
@@ -134,15 +146,7 @@ pub fn length_of_mapping(kind: u64) -> usize
     requires { ⌜ mapping-kind kind ≡ true ⌝ }
     ensures { λ r. ⌜ r ≡ length-of kind ⌝ }
 {
-    number_at(LENGTHS, kind)
-}
-
-// The same of a mapping whose addresses have 48 bits.
-pub fn length_of_narrow(kind: u64) -> usize
-    requires { ⌜ (mapping-kind kind && not (other-width 48 kind)) ≡ true ⌝ }
-    ensures { λ r. ⌜ r ≡ length-of kind ⌝ }
-{
-    ((NARROW_LENGTHS >> (8 * kind)) % 256) as usize
+    (16 + shape_at(SHAPES, kind) % 8) as usize
 }
 
 // Where the span stands in a mapping's record.
@@ -150,7 +154,7 @@ pub fn place_of_span(kind: u64) -> usize
     requires { ⌜ mapping-kind kind ≡ true ⌝ }
     ensures { λ r. ⌜ r ≡ place-of Field.span kind ⌝ }
 {
-    number_at(SPANS, kind)
+    (5 + shape_at(SHAPES, kind) / 8) as usize
 }
 
 // Where the EP4TA stands in a mapping's record; 0 where the mapping has none.

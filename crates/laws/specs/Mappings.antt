@@ -56,12 +56,9 @@ pub linear-set : (k : ℕ) → linear k ≡ in-set 0x292 k
 unfolding linear
 linear-set = by-set linear 0x292 linear-known refl
 
-pub guest-physical-numbers : (k : ℕ) → guest-physical k ≡ (eqb k 2 || eqb k 5)
+pub guest-physical-set : (k : ℕ) → guest-physical k ≡ in-set 0x24 k
 unfolding guest-physical
-guest-physical-numbers =
-    by-test guest-physical (λ k. eqb k 2 || eqb k 5) guest-physical-known
-    (small-or (λ k. eqb k 2) (λ k. eqb k 5) (small-eqb 2 (lit< tt)) (small-eqb 5 (lit< tt)))
-    refl
+guest-physical-set = by-set guest-physical 0x24 guest-physical-known refl
 
 pub combined-set : (k : ℕ) → combined k ≡ in-set 0x548 k
 unfolding combined
@@ -74,14 +71,9 @@ structure-cache-range =
     (small-or (λ k. leb 4 k && leb k 6) (λ k. leb 9 k && leb k 10) (small-range 4 6 (lit< tt)) (small-range 9 10 (lit< tt)))
     refl
 
-pub global-marked-numbers : (k : ℕ) → global-marked k ≡ ((eqb k 1 || eqb k 3) || (leb 7 k && leb k 8))
+pub global-marked-set : (k : ℕ) → global-marked k ≡ in-set 0x18A k
 unfolding global-marked linear combined structure-cache
-global-marked-numbers =
-    by-test global-marked (λ k. (eqb k 1 || eqb k 3) || (leb 7 k && leb k 8)) global-marked-known
-    (small-or (λ k. eqb k 1 || eqb k 3) (λ k. leb 7 k && leb k 8)
-    (small-or (λ k. eqb k 1) (λ k. eqb k 3) (small-eqb 1 (lit< tt)) (small-eqb 3 (lit< tt)))
-    (small-range 7 8 (lit< tt)))
-    refl
+global-marked-set = by-set global-marked 0x18A global-marked-known refl
 
 pub wide-range : (k : ℕ) → wide k ≡ (leb 7 k && leb k 10)
 unfolding wide
@@ -95,12 +87,11 @@ of-48-range =
     (small-range 1 6 (lit< tt))
     refl
 
-pub of-57-kinds : (k : ℕ) → (mapping-kind k && not ((linear k || combined k) && not (wide k))) ≡ (guest-physical k || wide k)
-unfolding mapping-kind linear combined guest-physical wide
-of-57-kinds =
-    by-test (λ k. mapping-kind k && not ((linear k || combined k) && not (wide k))) (λ k. guest-physical k || wide k)
+pub of-57-set : (k : ℕ) → (mapping-kind k && not ((linear k || combined k) && not (wide k))) ≡ in-set 0x7A4 k
+unfolding mapping-kind linear combined wide
+of-57-set =
+    by-set (λ k. mapping-kind k && not ((linear k || combined k) && not (wide k))) 0x7A4
     (λ k h. and-eq-true-iff (mapping-kind k) (not ((linear k || combined k) && not (wide k))) .0 h .0)
-    (small-or guest-physical wide (λ k h. mapping-kind-below k (guest-physical-known k h)) (λ k h. mapping-kind-below k (wide-known k h)))
     refl
 
 -- those of 48 bits: linear and combined ones that are not wide

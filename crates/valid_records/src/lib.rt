@@ -94,7 +94,7 @@ fn length_at_48(part: &[u8], kind: u64) -> usize
     if !kinds::is_mapping_at(48, kind) {
         return 0;
     }
-    let length = kinds::length_of_narrow(kind);
+    let length = kinds::length_of_mapping(kind);
     if part.len() < length {
         return 0;
     }

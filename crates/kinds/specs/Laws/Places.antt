@@ -1,11 +1,10 @@
 -- The numbers in code are the definitions' if a test computed over them says so.
-use Prim.Native.Nat.{ℕ, _+_, _*_, _/_, _%_, _^_, _≤_, _<_}
+use Prim.Native.Nat.{ℕ, _+_, _≤_, _<_}
 use mathlib.Core.Path.{_≡_, refl, sym, subst}
 use mathlib.Core.Bool.{Bool, true, false, cond, not, _&&_, false≢true}
-use borrow.Author.Tests.{eqb-true, le-leb, leb-true, lt-ltb}
+use borrow.Author.Tests.{eqb-true, le-leb, lt-ltb}
 use lib.Dec.{eqb, leb, ltb}
 use Rattle.model.specs.Layouts.{mapping-bodies, mapping-kind, event-kind, length-of}
-use Rattle.model.specs.Mappings.{linear, combined, wide, other-width}
 use Rattle.laws.specs.Layouts.{at-rows, of-mapping-kind, of-event-kind, below, below-at}
 use Rattle.kinds.specs.Places.{number-at}
 
@@ -14,6 +13,10 @@ pub numbers-of-mappings : (f : ℕ → ℕ) (numbers : ℕ) → at-rows (λ k. e
     → (k : ℕ) → mapping-kind k ≡ true → number-at numbers k ≡ f k
 numbers-of-mappings f numbers all k known =
     eqb-true (number-at numbers k) (f k) (of-mapping-kind (λ k. eqb (number-at numbers k) (f k)) all k known)
+
+-- the same of numbers that are worked out from a kind
+pub same-of-mappings : (f g : ℕ → ℕ) → at-rows (λ k. eqb (g k) (f k)) mapping-bodies ≡ true → (k : ℕ) → mapping-kind k ≡ true → g k ≡ f k
+same-of-mappings f g all k known = eqb-true (g k) (f k) (of-mapping-kind (λ k. eqb (g k) (f k)) all k known)
 
 -- the length of a kind; 0 where it is unknown
 abbrev pub length-or-none : ℕ → ℕ
@@ -42,17 +45,3 @@ length-from-12 k from to =
 pub length-from-28 : (k : ℕ) → 28 ≤ k → 0 ≡ length-or-none k
 length-from-28 k from =
     length-of-unknown (λ k. leb 28 k) (of-event-kind (λ k. not (leb 28 k)) refl) k (le-leb 28 k from)
-
--- the bytes of a number are those lengths of the kinds of 48 bits
-abbrev pub byte-at : ℕ → ℕ → ℕ
-byte-at numbers place = numbers / 2 ^ (8 * place) % 256
-
-pub bytes-of-narrow : (numbers : ℕ) → at-rows (λ k. cond (other-width 48 k) true (eqb (byte-at numbers k) (length-of k))) mapping-bodies ≡ true
-    → (k : ℕ) → mapping-kind k ≡ true → other-width 48 k ≡ false → byte-at numbers k ≡ length-of k
-bytes-of-narrow numbers all k known own =
-    eqb-true _ _ (rw own at (of-mapping-kind (λ k. cond (other-width 48 k) true (eqb (byte-at numbers k) (length-of k))) all k known))
-
--- such a kind is at most 6
-pub narrow-below : (k : ℕ) → mapping-kind k ≡ true → other-width 48 k ≡ false → k ≤ 6
-unfolding other-width linear combined wide
-narrow-below k known own = leb-true k 6 (rw own at (of-mapping-kind (λ k. cond (other-width 48 k) true (leb k 6)) refl k known))

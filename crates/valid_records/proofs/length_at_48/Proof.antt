@@ -24,12 +24,12 @@ known : (c : tie.Else1)
     → (mapping-kind (kind-of (now (c .before .before .before .args .part))) ≡ true) × (not (other-width 48 (kind-of (now (c .before .before .before .args .part)))) ≡ true)
 known c = and-eq-true-iff _ _ .0 (sym (said (c .before)) ∙ not-false _ (c .if1 .left))
 
-length-of-narrow-requires : tie.Need-length-of-narrow-requires
-length-of-narrow-requires c κs = rw (c .before .before .before .pre) (sym (said (c .before)) ∙ not-false _ (c .if1 .left))
+length-of-mapping-requires : tie.Need-length-of-mapping-requires
+length-of-mapping-requires c κs = rw (c .before .before .before .pre) (known c .0)
 
 -- the length that was read
-read : (c : tie.After-length-of-narrow) → c .length-of-narrow .result ≡ length-of (kind-of (now (c .before .before .before .before .args .part)))
-read c = c .length-of-narrow .ensures ∙ ap length-of (c .before .before .before .before .pre)
+read : (c : tie.After-length-of-mapping) → c .length-of-mapping .result ≡ length-of (kind-of (now (c .before .before .before .before .args .part)))
+read c = c .length-of-mapping .ensures ∙ ap length-of (c .before .before .before .before .pre)
 
 returns-2 : tie.Need-returns-2
 returns-2 c =
@@ -59,7 +59,7 @@ length-at-48-spec =
     (tie.spec
     (λ c κs. search needs)
     returns
-    length-of-narrow-requires
+    length-of-mapping-requires
     returns-2
     (λ c κs. (held c, not-wide _ (not-true _ (known (c .before .before) .1))))
     returns-3
