@@ -32,16 +32,20 @@ pub fn span(part: &[u8]) -> u64
     numbers::number1(part, span_at(part))
 }
 
-// The page of the record at the front.
+// The page of the record at the front: five bytes, and a sixth that is read in any case, so that no branch is taken on
+// the kind.
 fn page(part: &[u8]) -> u64
     requires { ⌜ Held (now part) ⌝ }
     ensures { λ r. ⌜ r ≡ mapping (now (part .entry)) .page ⌝ }
 {
     let at = span_at(part) + 1;
+    let five = numbers::number5(part, at);
+    let sixth = numbers::number1(part, at + 5);
     if kinds::is_wide(kind(part)) {
-        return numbers::number6(part, at);
+        five + 1099511627776 * sixth
+    } else {
+        five
     }
-    numbers::number5(part, at)
 }
 
 // The frame of the record at the front, or its structure.

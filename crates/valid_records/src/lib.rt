@@ -6,6 +6,7 @@ ghost use lib.Dec.{eqb, ltb};
 ghost use Prim.Native.Nat.{_*_, _%_, _^_, _≤_};
 ghost use Rattle.model.specs.Layouts.{kind-of};
 ghost use Rattle.model.specs.Mappings.{mapping, wide, Held, fields-in-range};
+ghost use Rattle.valid_records.specs.Ranges.{tags-in-range};
 ghost use Rattle.valid_records.specs.Lengths.{length-at};
 
 // The page is below a limit, and a multiple of the span's pages.
@@ -13,7 +14,23 @@ fn is_page(limit: u64, span: u64, page: u64) -> bool
     requires { ⌜ span ≤ 4 ⌝ }
     ensures { λ r. ⌜ r ≡ (ltb page limit && eqb (page % 2 ^ (9 * span)) 0) ⌝ }
 {
-    (page < limit) & (page % (1 << (9 * span)) == 0)
+    if limit <= page {
+        return false;
+    }
+    page % (1 << (9 * span)) == 0
+}
+
+// The PCID and the global mark of the record at the front are in their ranges, where its kind has them. The bytes are
+// read in any case, so that no branch is taken on the kind.
+fn is_tag_in_range(part: &[u8]) -> bool
+    requires { ⌜ Held (now part) ⌝ }
+    ensures { λ r. ⌜ r ≡ tags-in-range (mapping (now (part .entry))) ⌝ }
+{
+    let kind = mappings::kind(part);
+    let global = numbers::number1(part, 5);
+    let pcid = numbers::number2(part, 3);
+    (!kinds::is_global_marked(kind) | (global <= 1))
+        & (kinds::is_guest_physical(kind) | (pcid <= model::PCID_MAX))
 }
 
 // The fields of the record at the front, which is not of a kind of 57 bits, are in their ranges.
@@ -28,12 +45,11 @@ fn is_narrow_in_ranges(part: &[u8]) -> bool
     if !((translation & (span <= 2)) | (!translation & ((1 <= span) & (span <= 3)))) {
         return false;
     }
-    let global = numbers::number1(part, 5);
-    let pcid = numbers::number2(part, 3);
     let page = numbers::number5(part, mappings::span_at(part) + 1);
-    (!kinds::is_global_marked(kind) | (global <= 1))
-        & (kinds::is_guest_physical(kind) | (pcid <= model::PCID_MAX))
-        & is_page(model::PAGE_LIMIT, span, page)
+    if !is_page(model::PAGE_LIMIT, span, page) {
+        return false;
+    }
+    is_tag_in_range(part)
 }
 
 // The same for a kind of 57 bits.
@@ -48,12 +64,11 @@ fn is_wide_in_ranges(part: &[u8]) -> bool
     if !((translation & (span <= 2)) | (!translation & ((1 <= span) & (span <= 4)))) {
         return false;
     }
-    let global = numbers::number1(part, 5);
-    let pcid = numbers::number2(part, 3);
     let page = numbers::number6(part, mappings::span_at(part) + 1);
-    (!kinds::is_global_marked(kind) | (global <= 1))
-        & (kinds::is_guest_physical(kind) | (pcid <= model::PCID_MAX))
-        & is_page(model::WIDE_PAGE_LIMIT, span, page)
+    if !is_page(model::WIDE_PAGE_LIMIT, span, page) {
+        return false;
+    }
+    is_tag_in_range(part)
 }
 
 // The fields of the record at the front are in their ranges.

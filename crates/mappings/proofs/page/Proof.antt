@@ -1,31 +1,31 @@
--- Six bytes where the kind is wide, else five.
+-- Five bytes, and the sixth where the kind is wide.
 use borrow.Author.Needs.{needs}
+use Prim.Native.Nat.{_+_}
 use mathlib.Core.Path.{_≡_, sym, _∙_}
-use mathlib.Core.Bool.{true, false}
 use native.Mathlib.Omega.{arith}
 use denote.Ref.{now}
 use Rattle.model.specs.Mappings.{mapping, wide}
+use Rattle.mappings.specs.Laws.Places.{page-bytes-some, number-six}
 use Rattle.mappings.proofs.page.Statement.{statement}
 use Rattle.mappings.proofs.page.Tie as tie
 
--- what the test of the kind says
-said : (c : tie.After-is-wide) → c .is-wide .result ≡ wide (mapping (now (c .before .before .before .before .args .part)) .kind)
-said c = rw (c .before .kind .ensures) at (c .is-wide .ensures)
+number1-requires : tie.Need-number1-requires
+number1-requires c κs =
+    omega (arith, c .before .span-at .ensures .fits, page-bytes-some (mapping (now (c .before .before .before .args .part)) .kind))
 
-number6-requires : tie.Need-number6-requires
-number6-requires c κs =
-    let is = sym (said (c .before)) ∙ c .if1 .taken in
-    omega (arith, rw is at (c .before .before .before .span-at .ensures .fits))
+-- what the test of the kind says
+said : (c : tie.After-is-wide) → c .is-wide .result ≡ wide (mapping (now (c .before .before .before .before .before .before .args .part)) .kind)
+said c = rw (c .before .kind .ensures) at (c .is-wide .ensures)
 
 returns : tie.Need-returns
 returns c =
-    let is = sym (said (c .before .before)) ∙ c .before .if1 .taken in
-    c .number6 .ensures .0 ∙ rw is at (c .before .before .before .before .span-at .ensures .page)
+    let is = sym (said (c .before)) ∙ c .if1 .taken in
+    rw (c .before .before .before .before .number5 .ensures .0, c .before .before .before .number1 .ensures .0) (number-six (c .before .before .before .before .before .span-at .result + 1) (now (c .before .before .before .before .before .before .before .args .part)) ∙ rw is at (c .before .before .before .before .before .span-at .ensures .page))
 
 returns-2 : tie.Need-returns-2
 returns-2 c =
-    let is = sym (said (c .before .before)) ∙ c .before .if1 .left in
-    c .number5 .ensures .0 ∙ rw is at (c .before .before .before .before .span-at .ensures .page)
+    let is = sym (said (c .before)) ∙ c .if1 .left in
+    c .before .before .before .before .number5 .ensures .0 ∙ rw is at (c .before .before .before .before .before .span-at .ensures .page)
 
 pub page-spec : {M : Type 1} → statement M
 page-spec =
@@ -34,8 +34,11 @@ page-spec =
     (λ c κs. search needs)
     (λ c. search needs)
     (λ c κs. search needs)
+    (λ c. search needs)
+    number1-requires
     (λ c κs. search needs)
-    number6-requires
+    (λ c κs. search needs)
+    (λ c. search needs)
+    (λ c. search needs)
     returns
-    (λ c κs. search needs)
     returns-2)

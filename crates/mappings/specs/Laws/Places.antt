@@ -1,9 +1,10 @@
 -- Where the fields of a held record stand.
-use Prim.Native.Nat.{ℕ, _+_, _≤_}
+use Prim.Native.Nat.{ℕ, _+_, _*_, _≤_}
 use mathlib.Core.Bool.{Bool, true, false, cond, _&&_}
 use mathlib.Core.List.{List}
 use mathlib.Core.Path.{_≡_, refl, sym}
 use native.Mathlib.Nat.{le-trans}
+use native.Mathlib.Omega.{arith}
 use borrow.Author.Tests.{ne-eqb, leb-true}
 use lib.Dec.{eqb, leb}
 use lib.ListN.{length}
@@ -21,6 +22,17 @@ read-where is says holds same = rw (is, ← says, holds) same
 
 pub none-where : {b test : Bool} {f : ℕ} (y : ℕ) → f ≡ cond test y 0 → b ≡ test → b ≡ false → 0 ≡ f
 none-where y is says fails = rw (is, ← says, fails)
+
+-- a page has five bytes or more; six are five and a sixth
+pub page-bytes-some : (kind : ℕ) → 5 ≤ page-bytes kind
+page-bytes-some kind = go (wide kind)
+  where
+    go : (b : Bool) → 5 ≤ cond b 6 5
+    go true = omega arith
+    go false = omega arith
+
+pub number-six : (at : ℕ) (r : List ℕ) → number 5 at r + 1099511627776 * number 1 (at + 5) r ≡ number 6 at r
+number-six at r = let here : at + 5 ≡ at + 1 + 1 + 1 + 1 + 1 = omega arith in rw here (omega arith)
 
 -- a mark that a kind lacks is 0, and so no mark
 eqb-and : (b : Bool) (x : ℕ) → (b && eqb x 1) ≡ (b && eqb (cond b x 0) 1)

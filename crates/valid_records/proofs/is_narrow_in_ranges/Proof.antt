@@ -1,16 +1,14 @@
--- A span out of its range decides; else the tests of the other fields do.
+-- A span or a page out of its range decides; else the tags do.
 use borrow.Author.Needs.{needs}
 use Prim.Native.Nat.{_*_, _%_, _^_}
 use mathlib.Core.Path.{_≡_, refl, sym, _∙_}
-use mathlib.Core.Bool.{Bool, true, not, _&&_, _||_}
+use mathlib.Core.Bool.{true, not, _&&_, _||_}
 use native.Mathlib.Omega.{arith}
 use borrow.Author.Tests.{not-true, not-false}
 use denote.Ref.{now}
-use lib.Dec.{eqb, leb, ltb}
-use lib.ListN.{length}
+use lib.Dec.{leb}
 use Rattle.model.specs.Mappings.{mapping, wide, span-in-range, page-in-range}
-use Rattle.laws.specs.Mappings.{held-length}
-use Rattle.valid_records.specs.Laws.Ranges.{narrow-span-tests, span-below, ranges-off, ranges-tests}
+use Rattle.valid_records.specs.Laws.Ranges.{narrow-span-tests, span-below, ranges-off, ranges-off-page, ranges-on}
 use Rattle.valid_records.proofs.is_narrow_in_ranges.Statement.{statement}
 use Rattle.valid_records.proofs.is_narrow_in_ranges.Tie as tie
 
@@ -26,45 +24,32 @@ said c =
 returns : tie.Need-returns
 returns c = sym (ranges-off _ (sym (said (c .before)) ∙ not-true _ (c .if1 .taken)))
 
-number1-requires : tie.Need-number1-requires
-number1-requires c κs = omega (arith, held-length _ (c .before .before .before .before .pre .0))
-
-number2-requires : tie.Need-number2-requires
-number2-requires c κs = omega (arith, held-length _ (c .before .before .before .before .before .pre .0))
-
 -- where the page stands
 page-fits : tie.Need-number5-requires
 unfolding mapping
-page-fits c κs = omega (arith, rw (c .before .before .before .before .before .before .before .pre .1) at (c .span-at .ensures .fits))
+page-fits c κs = omega (arith, rw (c .before .before .before .before .before .pre .1) at (c .span-at .ensures .fits))
 
 on : (c : tie.Else1) → span-in-range (mapping (now (c .before .before .before .before .args .part)) .kind) (mapping (now (c .before .before .before .before .args .part)) .span) ≡ true
 on c = sym (said (c .before)) ∙ not-false _ (c .if1 .left)
 
 is-page-requires : tie.Need-is-page-requires
-is-page-requires c κs =
-    let e = c .before .before .before .before .before .before in
-    rw (e .before .span .ensures) (span-below _ _ (on e))
+is-page-requires c κs = rw (c .before .before .before .span .ensures) (span-below _ _ (on (c .before .before)))
+
+-- what the test of the page says
+paged : (c : tie.After-is-page)
+    → c .is-page .result
+    ≡ page-in-range (mapping (now (c .before .before .before .before .before .before .before .args .part)) .kind) (mapping (now (c .before .before .before .before .before .before .before .args .part)) .span) (mapping (now (c .before .before .before .before .before .before .before .args .part)) .page)
+unfolding mapping
+paged c =
+    let s = c .before .before .before .before .before .before .before in
+    let page = c .before .number5 .ensures .0 ∙ rw (s .pre .1) at (c .before .before .span-at .ensures .page) in
+    rw (page, c .before .before .before .before .span .ensures) at (c .is-page .ensures) ∙ rw (s .pre .1) refl
 
 returns-2 : tie.Need-returns-2
-unfolding mapping
-returns-2 c =
-    let e = c .before .before .before .before .before .before .before in
-    let s = e .before .before .before .before in
-    let page = c .before .before .before .number5 .ensures .0 ∙ rw (s .pre .1) at (c .before .before .before .before .span-at .ensures .page) in
-    let limit : (ltb (mapping (now (s .args .part)) .page) 68719476736 && eqb (mapping (now (s .args .part)) .page % 2 ^ (9 * mapping (now (s .args .part)) .span)) 0)
-    ≡ page-in-range (mapping (now (s .args .part)) .kind) (mapping (now (s .args .part)) .span) (mapping (now (s .args .part)) .page) = rw (s .pre .1) refl in
-    rw (
-      c .is-page .ensures,
-      c .before .is-guest-physical .ensures,
-      c .before .before .is-global-marked .ensures,
-      page,
-      c .before .before .before .before .before .number2 .ensures .0,
-      c .before .before .before .before .before .before .number1 .ensures .0,
-      e .before .span .ensures,
-      e .before .before .kind .ensures,
-      limit,
-    )
-    (ranges-tests _ (s .pre .0) (on e))
+returns-2 c = sym (ranges-off-page _ (sym (paged (c .before)) ∙ not-true _ (c .if2 .taken)))
+
+returns-3 : tie.Need-returns-3
+returns-3 c = c .is-tag-in-range .ensures ∙ ranges-on _ (on (c .before .before .before .before .before)) (sym (paged (c .before .before)) ∙ not-false _ (c .before .if2 .left))
 
 pub is-narrow-in-ranges-spec : {M : Type 1} → statement M
 is-narrow-in-ranges-spec =
@@ -73,12 +58,10 @@ is-narrow-in-ranges-spec =
     (λ c κs. search needs)
     (λ c κs. search needs)
     returns
-    number1-requires
-    number2-requires
     (λ c κs. search needs)
     (λ c. search needs)
     page-fits
-    (λ c κs. search needs)
-    (λ c κs. search needs)
     is-page-requires
-    returns-2)
+    returns-2
+    (λ c κs. search needs)
+    returns-3)
