@@ -63,10 +63,11 @@ record Card : Type 0 where
 
 holds : Card → Bool
 holds k =
-    eqb (stepped (k .context) (k .table) (k .event) 64 .answer) (k .answer)
-    && eqb (stepped (k .context) (k .table) (k .event) 64 .dropped) (k .dropped)
-    && eqb (stepped (k .context) (k .table) (k .event) 64 .length) (length (k .new))
-    && same (numbers (stepped (k .context) (k .table) (k .event) 64 .context)) (numbers (k .after))
+    let s = stepped (k .context) (k .table) (k .event) 64 in
+    eqb (s .answer) (k .answer)
+    && eqb (s .dropped) (k .dropped)
+    && eqb (s .length) (length (k .new))
+    && same (numbers (s .context)) (numbers (k .after))
     && same (written (k .context) (k .table) (k .event) buffer) (k .new ++ drop (length (k .new)) buffer)
 
 -- a lookup, its answer, and the record that it hands back with its start
@@ -95,8 +96,8 @@ record Why : Type 0 where
 
 tells : Why → Bool
 tells k =
-    eqb (explanation-number (explanation (k .context) (k .bytes) (k .event))) (k .number)
-    && eqb (explanation-answer (explanation (k .context) (k .bytes) (k .event))) (k .answer)
+    let why = explanation (k .context) (k .bytes) (k .event) in
+    eqb (explanation-number why) (k .number) && eqb (explanation-answer why) (k .answer)
 
 all : {A : Type 0} → (A → Bool) → List A → Bool
 all p [] = true
@@ -154,8 +155,9 @@ record Ruled : Type 0 where
 
 rules : Ruled → Bool
 rules k =
-    eqb (stepped (k .context) [] (k .event) 64 .answer) (k .answer)
-    && eqb (stepped (k .context) [] (k .event) 64 .rule) (k .rule)
+    let s = stepped (k .context) [] (k .event) 64 in
+    eqb (s .answer) (k .answer)
+    && eqb (s .rule) (k .rule)
     && eqb (explanation-rule (explanation (k .context) G (k .event))) (k .rule)
 
 -- records of each kind, of EP4TA 1234567h where they have one: VPID, PCID, global, span, page
