@@ -43,8 +43,18 @@ unfoldable pub in-place-of : Run → List (List ℕ) → Run
 in-place-of s [] = s
 in-place-of s (e ∷ es) = in-place-of (in-place-after s e) es
 
--- Such a run has the context, the table and the reports of `run-of`, whatever the events and the buffers are.
+-- the tables after each event, of such a run and of `run-of`
+unfoldable pub in-place-tables : Run → List (List ℕ) → List (List ℕ)
+in-place-tables s [] = []
+in-place-tables s (e ∷ es) = in-place-after s e .table ∷ in-place-tables (in-place-after s e) es
+
+unfoldable pub run-tables : Run → List (List ℕ) → List (List ℕ)
+run-tables s [] = []
+run-tables s (e ∷ es) = run-after s e .table ∷ run-tables (run-after s e) es
+
+-- Such a run has the context, the tables and the reports of `run-of`, whatever the events and the buffers are.
 pub record InPlace (c : Context) (es : List (List ℕ)) (a b : List ℕ) : Type 0 where
   pub context : in-place-of (started c a b) es .context ≡ run-of (started c a b) es .context
   pub table : in-place-of (started c a b) es .table ≡ run-of (started c a b) es .table
+  pub tables : in-place-tables (started c a b) es ≡ run-tables (started c a b) es
   pub reports : in-place-reports (started c a b) es ≡ run-reports (started c a b) es

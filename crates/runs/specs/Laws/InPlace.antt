@@ -19,7 +19,7 @@ use Rattle.laws.specs.Buffers.{length-put-least}
 use Rattle.laws.specs.Steps.{new-table-unscoped, stepped-room}
 use Rattle.runs.specs.Book.{Report}
 use Rattle.runs.specs.Runs.{Run, started, run-answer, run-after, report, run-report, run-reports, run-of}
-use Rattle.runs.specs.InPlace.{stays, in-place, in-place-after, in-place-reports, in-place-of, InPlace}
+use Rattle.runs.specs.InPlace.{stays, in-place, in-place-after, in-place-reports, in-place-of, in-place-tables, run-tables, InPlace}
 use Rattle.runs.specs.Laws.Steps.{by-answer, run-after-accepted, run-after-refused, Tabled, tabled-whole, tabled-started, tabled-after, Sound, sound-answer, sound-after}
 
 -- an event that leaves the table in its buffer has no scope, and both buffers are long
@@ -180,6 +180,13 @@ reports-alike s s′ (e ∷ es) t k =
     ap₂ (λ r rs. r ∷ rs) (alike-report e k)
     (reports-alike (in-place-after s e) (run-after s′ e) es (tabled-after s′ e t) (alike-trans (in-place-alike s e (tabled-alike k t)) (alike-after e k)))
 
+tables-alike : (s s′ : Run) (es : List (List ℕ)) → Tabled s′ → Alike s s′ → in-place-tables s es ≡ run-tables s′ es
+unfolding in-place-tables run-tables
+tables-alike s s′ [] t k = refl
+tables-alike s s′ (e ∷ es) t k =
+    let after = alike-trans (in-place-alike s e (tabled-alike k t)) (alike-after e k) in
+    ap₂ (λ x xs. x ∷ xs) (alike-table after) (tables-alike (in-place-after s e) (run-after s′ e) es (tabled-after s′ e t) after)
+
 pub in-place-holds : (c : Context) (es : List (List ℕ)) (a b : List ℕ) → InPlace c es a b
 in-place-holds c es a b =
     let begun = tabled-started c a b in
@@ -187,5 +194,6 @@ in-place-holds c es a b =
     record {
       context = alike-context done;
       table = alike-table done;
+      tables = tables-alike (started c a b) (started c a b) es begun (one refl);
       reports = reports-alike (started c a b) (started c a b) es begun (one refl);
     }
