@@ -1,2 +1,3 @@
--- The laws of the search.
+-- The laws of what a lookup asks, and of the search.
+pub mod Seeking
 pub mod Searching

@@ -1,13 +1,38 @@
--- What the search loop of a lookup finds in a valid table.
+-- What a lookup asks of each record, as data, and what its search loop finds in a valid table.
 use Prim.Native.Nat.{ℕ, _-_, _≤_}
+use mathlib.Core.Bool.{Bool, cond, _&&_, _||_}
 use mathlib.Core.List.{List, []}
 use mathlib.Core.Path.{_≡_}
+use lib.Dec.{eqb}
 use lib.ListN.{length, getD, take, drop}
 use Rattle.model.specs.declared.Context.{Context}
 use Rattle.model.specs.declared.Address.{Address}
-use Rattle.model.specs.Mappings.{mapping}
+use Rattle.model.specs.declared.Mapping.{Mapping}
+use Rattle.model.specs.Bits.{bit, number}
+use Rattle.model.specs.Mappings.{mapping, Held, global-translation, covers}
 use Rattle.model.specs.Tables.{records}
 use Rattle.model.specs.Lookups.{usable, usable-records, start-of}
+use Rattle.lookups.specs.declared.Sought.{Sought}
+
+-- the kinds that are asked for beside a VPID
+unfoldable pub kinds-with : Sought → ℕ → ℕ
+kinds-with s vpid = cond (eqb vpid (s .vpid)) (s .kinds) (s .others)
+
+-- of the record at the front; the VPID is read off the two bytes where linear and combined mappings have theirs
+unfoldable pub of-kind-and-vpid : Sought → List ℕ → Bool
+of-kind-and-vpid s r = bit (mapping r .kind) (kinds-with s (number 2 1 r))
+
+unfoldable pub of-pcid-and-ep4ta : Sought → Mapping → Bool
+of-pcid-and-ep4ta s m = (eqb (m .pcid) (s .pcid) || global-translation m) && eqb (m .ep4ta) (s .ep4ta)
+
+-- the data ask for the record at the front
+unfoldable pub seeks : Sought → List ℕ → Bool
+seeks s r =
+    of-kind-and-vpid s r && covers (mapping r .span) (mapping r .page) (s .page) && of-pcid-and-ep4ta s (mapping r)
+
+-- they ask for exactly the usable records
+pub record Seeks (c : Context) (a : Address) (s : Sought) : Type 0 where
+  pub same : (r : List ℕ) → Held r → seeks s r ≡ usable c a (mapping r)
 
 -- the start and end of the k-th usable record: both 0 where there is none
 pub record Searched (c : Context) (a : Address) (t : List ℕ) (k start end : ℕ) : Type 0 where

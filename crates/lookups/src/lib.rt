@@ -8,47 +8,147 @@ ghost use mathlib.Core.Bool.{true};
 ghost use Prim.Native.Nat.{_+_};
 ghost use Rattle.model.specs.Mappings.{mapping, Held};
 ghost use Rattle.model.specs.Tables.{whole};
-ghost use Rattle.model.specs.Lookups.{translates-linear, usable, lookup-answer, lookup, lookup-start};
-ghost use Rattle.lookups.specs.Search.{Searched};
+ghost use Rattle.model.specs.declared.Address.the-variants.{Linear, GuestPhysical};
+ghost use Rattle.model.specs.Lookups.{lookup-answer, lookup, lookup-start};
+ghost use Rattle.lookups.specs.Search.{kinds-with, of-kind-and-vpid, of-pcid-and-ep4ta, seeks, Seeks, Searched};
 
-// The record translates linear addresses under the EPT state: kinds 1 and 4 with EPT off, kinds 3 and
-// 6 of its EP4TA with EPT on.
-fn is_translating(ept: Ept, part: &[u8]) -> bool
-    requires { ⌜ Held (now part) ⌝ }
-    ensures { λ r. ⌜ r ≡ translates-linear ept (mapping (now (part .entry))) ⌝ }
+// Sets of kinds, bit k for kind k.
+const LINEAR: u64 = 0x292;
+
+const COMBINED: u64 = 0x548;
+
+const GUEST_PHYSICAL: u64 = 0x24;
+
+// What a lookup asks of each record. A field that the kind does not have is 0.
+struct Sought {
+    // the VPID; the kinds that are usable with it, bit k for kind k, and those with any other
+    vpid: u64,
+    kinds: u64,
+    others: u64,
+    // the PCID, which a global translation need not have
+    pcid: u64,
+    ep4ta: u64,
+    // the page that is to be covered
+    page: u64,
+}
+
+// What no record has.
+fn nothing() -> Sought
+    ensures { λ r. ⌜ (r .kinds ≡ 0) × (r .others ≡ 0) ⌝ }
 {
-    let kind = mappings::kind(part);
-    match ept {
-        Ept::Off => kinds::is_linear(kind),
-        Ept::On(current) => kinds::is_combined(kind) & (mappings::ep4ta(part) == current),
+    Sought {
+        vpid: 0,
+        kinds: 0,
+        others: 0,
+        pcid: 0,
+        ep4ta: 0,
+        page: 0,
     }
 }
 
-// The record is usable at the address.
-fn is_usable(c: Context, a: Address, part: &[u8]) -> bool
-    requires { ⌜ Held (now part) ⌝ }
-    ensures { λ r. ⌜ r ≡ usable c a (mapping (now (part .entry))) ⌝ }
+// What is asked for a linear address: a linear mapping with EPT off, a combined one of its EP4TA with EPT on.
+fn sought_at_linear(c: Context, address: u64) -> Sought
+    ensures { λ r. ⌜ Seeks c (Linear address) r ⌝ }
 {
-    let place = c.place;
-    let pcid = c.pcid;
     let width = c.linear_width;
+    if !addresses::is_canonical(width, address) {
+        return nothing();
+    }
+    let page = addresses::page(width, address);
+    let place = c.place;
     let vpid = contexts::vpid(place);
     let ept = contexts::ept(place);
-    match a {
-        Address::Linear(address) => {
-            addresses::is_canonical(width, address)
-                & mappings::is_covering(part, addresses::page(width, address))
-                & (mappings::vpid(part) == vpid)
-                & ((mappings::pcid(part) == pcid) | mappings::is_global_translation(part))
-                & is_translating(ept, part)
-        }
-        Address::GuestPhysical(address) => {
-            (address < model::GUEST_PHYSICAL_LIMIT)
-                & mappings::is_covering(part, addresses::guest_physical_page(address))
-                & kinds::is_guest_physical(mappings::kind(part))
-                & contexts::is_current_ep4ta(ept, mappings::ep4ta(part))
-        }
+    match ept {
+        Ept::Off => Sought {
+            vpid,
+            kinds: LINEAR,
+            others: 0,
+            pcid: c.pcid,
+            ep4ta: 0,
+            page,
+        },
+        Ept::On(ep4ta) => Sought {
+            vpid,
+            kinds: COMBINED,
+            others: 0,
+            pcid: c.pcid,
+            ep4ta,
+            page,
+        },
     }
+}
+
+// What is asked for a guest-physical address: a guest-physical mapping of the EP4TA, and nothing with EPT off.
+fn sought_at_guest_physical(c: Context, address: u64) -> Sought
+    ensures { λ r. ⌜ Seeks c (GuestPhysical address) r ⌝ }
+{
+    if model::GUEST_PHYSICAL_LIMIT <= address {
+        return nothing();
+    }
+    let page = addresses::guest_physical_page(address);
+    let place = c.place;
+    let ept = contexts::ept(place);
+    match ept {
+        Ept::Off => nothing(),
+        Ept::On(ep4ta) => Sought {
+            vpid: 0,
+            kinds: GUEST_PHYSICAL,
+            others: GUEST_PHYSICAL,
+            pcid: 0,
+            ep4ta,
+            page,
+        },
+    }
+}
+
+// What a lookup at the address asks of each record.
+fn sought_at(c: Context, a: Address) -> Sought
+    ensures { λ r. ⌜ Seeks c a r ⌝ }
+{
+    match a {
+        Address::Linear(address) => sought_at_linear(c, address),
+        Address::GuestPhysical(address) => sought_at_guest_physical(c, address),
+    }
+}
+
+// The kinds that are usable with a VPID.
+fn kinds_with(s: Sought, vpid: u64) -> u64
+    ensures { λ r. ⌜ r ≡ kinds-with s vpid ⌝ }
+{
+    if vpid == s.vpid { s.kinds } else { s.others }
+}
+
+// The record has a kind and a VPID that are sought. Most records do not, and a table mixes its records: so the two are
+// one test, since a branch for each would be mispredicted.
+fn is_of_kind_and_vpid(s: Sought, part: &[u8]) -> bool
+    requires { ⌜ Held (now part) ⌝ }
+    ensures { λ r. ⌜ r ≡ of-kind-and-vpid s (now (part .entry)) ⌝ }
+{
+    let kinds = kinds_with(s, mappings::vpid_bytes(part));
+    kinds::is_among(kinds, mappings::kind(part))
+}
+
+// It has the PCID or is global, and has the EP4TA.
+fn is_of_pcid_and_ep4ta(s: Sought, part: &[u8]) -> bool
+    requires { ⌜ Held (now part) ⌝ }
+    ensures { λ r. ⌜ r ≡ of-pcid-and-ep4ta s (mapping (now (part .entry))) ⌝ }
+{
+    ((mappings::pcid(part) == s.pcid) | mappings::is_global_translation(part))
+        & (mappings::ep4ta(part) == s.ep4ta)
+}
+
+// The record is sought.
+fn is_sought(s: Sought, part: &[u8]) -> bool
+    requires { ⌜ Held (now part) ⌝ }
+    ensures { λ r. ⌜ r ≡ seeks s (now (part .entry)) ⌝ }
+{
+    if !is_of_kind_and_vpid(s, part) {
+        return false;
+    }
+    if !mappings::is_covering(part, s.page) {
+        return false;
+    }
+    is_of_pcid_and_ep4ta(s, part)
 }
 
 // Where a record starts and ends in a table.
@@ -62,6 +162,7 @@ fn search(c: Context, a: Address, table: &[u8], k: u64) -> Part
     requires { ⌜ whole (now table) ≡ true ⌝ }
     ensures { λ r. ⌜ Searched c a (now (table .entry)) k (r .start) (r .end) ⌝ }
 {
+    let asked = sought_at(c, a);
     let mut at = 0;
     let mut left = k;
     let found = loop {
@@ -70,7 +171,7 @@ fn search(c: Context, a: Address, table: &[u8], k: u64) -> Part
         }
         let part = &table[at..];
         let end = at + mappings::length_of_held(part);
-        if is_usable(c, a, part) {
+        if is_sought(asked, part) {
             if left == 0 {
                 break Part { start: at, end };
             }

@@ -13,8 +13,9 @@ use Rattle.model.specs.Tables.{records, whole, only}
 use Rattle.model.specs.Lookups.{usable, usable-records, start-of}
 use Rattle.laws.specs.Lists.{getD-behind}
 use Rattle.laws.specs.Lookups.{start-of-false, start-of-true, start-of-zero}
-use Rattle.laws.specs.Tables.{rest-of-drop, records-drop-end, only-true, only-false, Next, whole-rest}
-use Rattle.lookups.specs.Search.{Searched}
+use Rattle.laws.specs.Tables.{rest-of-drop, records-drop-end, only-true, only-false, Next, whole-rest, held-of-whole}
+use Rattle.lookups.specs.declared.Sought.{Sought}
+use Rattle.lookups.specs.Search.{seeks, Seeks, Searched}
 
 -- the k-th usable record of the table is the one of number `left` in the rest, which is whole
 pub record Searching (c : Context) (a : Address) (t : List ℕ) (k at left : ℕ) : Type 0 where
@@ -36,10 +37,12 @@ search-end {t} {at} s e =
       place = sym (rw none at (s .place));
     }
 
--- a turn, at a record of n bytes; b is what is read as whether it is usable
-module _ {c : Context} {a : Address} {t : List ℕ} {k at left n : ℕ} {b : Bool} (s : Searching c a t k at left) (next : Next t at n) (says : b ≡ usable c a (mapping (take (length t - at) (drop at t)))) where
+-- a turn, at a record of n bytes; b is what is read as whether it is sought
+module _ {c : Context} {a : Address} {t : List ℕ} {k at left n : ℕ} {b : Bool} {q : Sought} (s : Searching c a t k at left) (asked : Seeks c a q) (next : Next t at n) (says : b ≡ seeks q (take (length t - at) (drop at t))) where
   of-front : usable c a (mapping (take n (drop at t))) ≡ b
-  of-front = rw (next .same, says, rest-of-drop)
+  of-front =
+      let held = held-of-whole t at (s .rest) (omega (arith, next .some, next .within)) in
+      rw (next .same, says ∙ asked .same _ held, rest-of-drop)
 
   pub search-skip : b ≡ false → Searching c a t k (at + n) left
   unfolding usable-records
