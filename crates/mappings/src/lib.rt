@@ -80,7 +80,7 @@ pub fn vpid_bytes(part: &[u8]) -> u64
 
 // The VPID of the record at the front; 0 where its kind has none. Its bytes are read in any case, so that no
 // branch is taken on the kind.
-pub fn vpid(part: &[u8]) -> u64
+fn vpid(part: &[u8]) -> u64
     requires { ⌜ Held (now part) ⌝ }
     ensures { λ r. ⌜ r ≡ mapping (now (part .entry)) .vpid ⌝ }
 {
