@@ -6,7 +6,7 @@ use borrow.Author.Tests.{eqb-true, le-leb, lt-ltb}
 use lib.Dec.{eqb, leb, ltb}
 use Rattle.model.specs.Layouts.{mapping-bodies, mapping-kind, event-kind, length-of}
 use Rattle.laws.specs.Layouts.{at-rows, of-mapping-kind, of-event-kind, below, below-at}
-use Rattle.kinds.specs.Places.{number-at}
+use Rattle.kinds.specs.Places.{number-at, shape-at}
 
 -- they are numbers of the kinds of mappings
 pub numbers-of-mappings : (f : ℕ → ℕ) (numbers : ℕ) → at-rows (λ k. eqb (number-at numbers k) (f k)) mapping-bodies ≡ true
@@ -14,9 +14,11 @@ pub numbers-of-mappings : (f : ℕ → ℕ) (numbers : ℕ) → at-rows (λ k. e
 numbers-of-mappings f numbers all k known =
     eqb-true (number-at numbers k) (f k) (of-mapping-kind (λ k. eqb (number-at numbers k) (f k)) all k known)
 
--- the same of numbers that are worked out from a kind
-pub same-of-mappings : (f g : ℕ → ℕ) → at-rows (λ k. eqb (g k) (f k)) mapping-bodies ≡ true → (k : ℕ) → mapping-kind k ≡ true → g k ≡ f k
-same-of-mappings f g all k known = eqb-true (g k) (f k) (of-mapping-kind (λ k. eqb (g k) (f k)) all k known)
+-- what is worked out from the shapes is a number of the kinds of mappings
+pub shapes-of-mappings : (f g : ℕ → ℕ) (shapes : ℕ) → at-rows (λ k. eqb (g (shape-at shapes k)) (f k)) mapping-bodies ≡ true
+    → (k : ℕ) → mapping-kind k ≡ true → g (shape-at shapes k) ≡ f k
+shapes-of-mappings f g shapes all k known =
+    eqb-true (g (shape-at shapes k)) (f k) (of-mapping-kind (λ k. eqb (g (shape-at shapes k)) (f k)) all k known)
 
 -- the length of a kind; 0 where it is unknown
 abbrev pub length-or-none : ℕ → ℕ
