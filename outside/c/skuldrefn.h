@@ -436,9 +436,11 @@ typedef struct {
  * log, log_length: the log; it is only read.
  * first, second: two buffers for tables; one of them holds the table in force.
  * With 47,104 bytes or more each there is all the room that answer 12 allows,
- * and an event that can drop nothing leaves the table where it is, with a
- * creation behind it. With fewer there is less room, and each accepted event
- * writes the table into the other buffer.
+ * and an event without a scope (a creation, kinds 22 to 24, a VM entry or exit
+ * with VPIDs, INVLPG at an address that is not canonical) leaves the table
+ * where it is, with a creation behind it. Where either has fewer, each accepted
+ * event writes the table into the other buffer, and any event is answered 12
+ * where that one is shorter than the table.
  * rows, rows_length: one row of 24 bytes for each event: its answer, its
  * dropped count, and the length of the table in force after it, 8 bytes each,
  * little-endian. Bytes past the last row stay as they were. 24 times

@@ -1,17 +1,16 @@
-// What an event adds to a table: whether it is a creation, room for it, and its bytes.
+// What an event adds to a table: whether it is a creation, room for it, its bytes, and its count.
 ghost use mathlib.Core.Path.{_≡_};
 ghost use mathlib.Core.Bool.{true, cond};
 ghost use Prim.Native.Nat.{_+_, _≤_};
 ghost use lib.ListN.{length};
 ghost use Rattle.model.specs.Buffers.{put};
 ghost use Rattle.model.specs.Layouts.{kind-of, mapping-kind};
-ghost use Rattle.model.specs.Answers.{created, no-room};
-ghost use Rattle.laws.specs.Steps.{creation};
+ghost use Rattle.model.specs.Answers.{created, no-room, creation};
 ghost use Rattle.tallies.specs.Tallies.{Countable};
 ghost use Rattle.creations.specs.Counts.{cells-with-creation, pcids-with-creation};
 
 // The bytes are a creation's: their kind is a mapping's.
-pub fn is_creation(e: &[u8]) -> bool
+fn is_creation(e: &[u8]) -> bool
     ensures { λ r. ⌜ r ≡ mapping-kind (kind-of (now (e .entry))) ⌝ }
 {
     if e.len() == 0 {
@@ -42,17 +41,17 @@ pub fn is_without_room(room: usize, table: &[u8], e: &[u8]) -> bool
     (room < needed) | (model::TABLE_LIMIT < needed)
 }
 
-// Writes a creation at a position of the new buffer, and answers where it ends; another event adds
+// Writes a creation at a position of a buffer, and answers where it ends; another event adds
 // nothing.
-pub fn add_creation(raw: &[u8], new: &mut [u8], at: usize) -> usize
-    requires { ⌜ at + length (created (now raw)) ≤ length (now new) ⌝ }
+pub fn add_creation(raw: &[u8], buffer: &mut [u8], at: usize) -> usize
+    requires { ⌜ at + length (created (now raw)) ≤ length (now buffer) ⌝ }
     ensures { λ r. ⌜ r ≡ at + length (created (now (raw .entry))) ⌝ }
-    ensures { λ _. ⌜ now (new .exit) ≡ put at (created (now (raw .entry))) (now (new .entry)) ⌝ }
+    ensures { λ _. ⌜ now (buffer .exit) ≡ put at (created (now (raw .entry))) (now (buffer .entry)) ⌝ }
 {
     if !is_creation(raw) {
         return at;
     }
-    buffers::put(raw, new, at)
+    buffers::put(raw, buffer, at)
 }
 
 // Counts a creation, where the records are counted; another event adds nothing.

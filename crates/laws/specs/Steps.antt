@@ -16,7 +16,7 @@ use Rattle.model.specs.Tables.{limit, joined, records, whole, only, count}
 use Rattle.model.specs.Events.{event, valid-event}
 use Rattle.model.specs.Mappings.{mapping}
 use Rattle.model.specs.Scopes.{has-scope, next-context}
-use Rattle.model.specs.Answers.{first, created, no-room, valid-table, table-grounds, answer, rule-with}
+use Rattle.model.specs.Answers.{first, created, creation, no-room, valid-table, table-grounds, answer, rule-with}
 use Rattle.model.specs.Steps.{in-scope, new-table, dropped-count, accepted-step, refusal, refused-step, stepped, written}
 use Rattle.laws.specs.Lists.{Every, none, more, every-head, every-tail, every-append}
 use Rattle.laws.specs.Mappings.{Valid}
@@ -72,10 +72,6 @@ judged-whole c t h =
 pub judged-short : (c : Context) (t : List ℕ) → first (table-grounds c t) ≡ 0 → length t ≤ limit
 unfolding table-grounds
 judged-short c t h = ltb-false limit (length t) (every-head (every-tail (first-zero (table-grounds c t) refl h)))
-
--- the record that an event adds to the table, if it is a creation
-unfoldable pub creation : List ℕ → List (List ℕ)
-creation e = cond (mapping-kind (kind-of e)) (e ∷ []) []
 
 pub joined-creation : (e : List ℕ) → joined (creation e) ≡ created e
 unfolding creation created joined

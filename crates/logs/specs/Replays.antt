@@ -1,4 +1,4 @@
--- Document 01, "Replay program": what is reported of each event. Its sentence "Should a step answer 2 or 3,
+-- Document 01, "Replay program": what is reported of each event, and what a replay leaves. Its sentence "Should a step answer 2 or 3,
 -- print its line and end" is taken back by document 02, Ask 9, since no step does (`Stops.antt`).
 use Prim.Native.Nat.{ℕ, _/_}
 use mathlib.Core.Bool.{Bool, true, cond}
@@ -29,12 +29,6 @@ unfoldable pub run-lines : Run → List (List ℕ) → List Line
 run-lines s [] = []
 run-lines s (e ∷ es) = run-line s e ∷ run-lines (run-after s e) es
 
--- whether the first of the two buffers holds the table after the events, as it does or does not before them: a table
--- that does not stay in its buffer goes into the other
-unfoldable pub side-ended : Bool → Run → List (List ℕ) → Bool
-side-ended first s [] = first
-side-ended first s (e ∷ es) = side-ended (side-after first s e) (in-place-after s e) es
-
 -- the same of the book
 unfoldable pub book-line : Book → List ℕ → Line
 book-line b e = record { answer = book-answer b e; dropped = book-report b e .dropped; length = length (book-table (book-after b e)) }
@@ -42,6 +36,12 @@ book-line b e = record { answer = book-answer b e; dropped = book-report b e .dr
 unfoldable pub book-lines : Book → List (List ℕ) → List Line
 book-lines b [] = []
 book-lines b (e ∷ es) = book-line b e ∷ book-lines (book-after b e) es
+
+-- whether the first of the two buffers holds the table after the events, as it does or does not before them: a table
+-- that does not stay in its buffer goes into the other
+unfoldable pub side-ended : Bool → Run → List (List ℕ) → Bool
+side-ended first s [] = first
+side-ended first s (e ∷ es) = side-ended (side-after first s e) (in-place-after s e) es
 
 -- a line as a row of 24 bytes: answer, dropped count and length, 8 bytes each
 abbrev pub row-length : ℕ

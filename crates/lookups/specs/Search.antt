@@ -31,7 +31,7 @@ seeks s r =
     of-kind-and-vpid s r && covers (mapping r .span) (mapping r .page) (s .page) && of-pcid-and-ep4ta s (mapping r)
 
 -- they ask for exactly the usable records
-pub record Seeks (c : Context) (a : Address) (s : Sought) : Type 0 where
+pub record AsksForUsable (c : Context) (a : Address) (s : Sought) : Type 0 where
   pub same : (r : List ℕ) → Held r → seeks s r ≡ usable c a (mapping r)
 
 -- the start and end of the k-th usable record: both 0 where there is none

@@ -10,7 +10,7 @@ ghost use Rattle.model.specs.Mappings.{mapping, Held};
 ghost use Rattle.model.specs.Tables.{whole};
 ghost use Rattle.model.specs.declared.Address.the-variants.{Linear, GuestPhysical};
 ghost use Rattle.model.specs.Lookups.{lookup-answer, lookup, lookup-start};
-ghost use Rattle.lookups.specs.Search.{kinds-with, of-kind-and-vpid, of-pcid-and-ep4ta, seeks, Seeks, Searched};
+ghost use Rattle.lookups.specs.Search.{kinds-with, of-kind-and-vpid, of-pcid-and-ep4ta, seeks, AsksForUsable, Searched};
 
 // Sets of kinds, bit k for kind k.
 const LINEAR: u64 = 0x292;
@@ -48,7 +48,7 @@ fn nothing() -> Sought
 
 // What is asked for a linear address: a linear mapping with EPT off, a combined one of its EP4TA with EPT on.
 fn sought_at_linear(c: Context, address: u64) -> Sought
-    ensures { λ r. ⌜ Seeks c (Linear address) r ⌝ }
+    ensures { λ r. ⌜ AsksForUsable c (Linear address) r ⌝ }
 {
     let width = c.linear_width;
     if !addresses::is_canonical(width, address) {
@@ -80,7 +80,7 @@ fn sought_at_linear(c: Context, address: u64) -> Sought
 
 // What is asked for a guest-physical address: a guest-physical mapping of the EP4TA, and nothing with EPT off.
 fn sought_at_guest_physical(c: Context, address: u64) -> Sought
-    ensures { λ r. ⌜ Seeks c (GuestPhysical address) r ⌝ }
+    ensures { λ r. ⌜ AsksForUsable c (GuestPhysical address) r ⌝ }
 {
     if model::GUEST_PHYSICAL_LIMIT <= address {
         return nothing();
@@ -103,7 +103,7 @@ fn sought_at_guest_physical(c: Context, address: u64) -> Sought
 
 // What a lookup at the address asks of each record.
 fn sought_at(c: Context, a: Address) -> Sought
-    ensures { λ r. ⌜ Seeks c a r ⌝ }
+    ensures { λ r. ⌜ AsksForUsable c a r ⌝ }
 {
     match a {
         Address::Linear(address) => sought_at_linear(c, address),

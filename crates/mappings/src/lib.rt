@@ -32,8 +32,11 @@ pub fn span(part: &[u8]) -> u64
     numbers::number1(part, span_at(part))
 }
 
-// The page of the record at the front: five bytes, and a sixth that is read in any case, so that no branch is taken on
-// the kind.
+// What the sixth byte of a number counts.
+const SIXTH_BYTE: u64 = 1099511627776;
+
+// The page of the record at the front: five bytes, and a sixth where the kind is of 57 bits. The sixth is read in any
+// case, so that the compiler needs no branch.
 fn page(part: &[u8]) -> u64
     requires { ⌜ Held (now part) ⌝ }
     ensures { λ r. ⌜ r ≡ mapping (now (part .entry)) .page ⌝ }
@@ -42,7 +45,7 @@ fn page(part: &[u8]) -> u64
     let five = numbers::number5(part, at);
     let sixth = numbers::number1(part, at + 5);
     if kinds::is_wide(kind(part)) {
-        five + 1099511627776 * sixth
+        five + SIXTH_BYTE * sixth
     } else {
         five
     }

@@ -209,6 +209,10 @@ rule-with c e answer = cond (among answer (8 ∷ 10 ∷ [])) (own-rule c (event 
 unfoldable pub created : List ℕ → List ℕ
 created e = cond (mapping-kind (kind-of e)) e []
 
+-- the same as records: one, or none
+unfoldable pub creation : List ℕ → List (List ℕ)
+creation e = cond (mapping-kind (kind-of e)) (e ∷ []) []
+
 -- 12, "the new buffer, or 45,056 [47,104 by Ask 12], is less than the old table's length, plus the record's length for a
 -- creation"; room is the length of the new buffer
 unfoldable pub no-room : ℕ → List ℕ → List ℕ → Bool

@@ -1,19 +1,19 @@
 -- A run that leaves its table where it is, where it may: what `Runs` says of contexts, tables and reports, with fewer
--- bytes written. With shorter buffers room is judged against the other one, so there every accepted event writes
--- into it.
+-- bytes written. Room is judged against the other buffer, so with a buffer shorter than the limit a table that stays
+-- could have other room at the next event; there every accepted event writes into the other buffer.
 use Prim.Native.Nat.{ℕ}
 use mathlib.Core.Bool.{Bool, cond, not, _&&_}
 use mathlib.Core.List.{List, [], _∷_, _++_}
 use mathlib.Core.Path.{_≡_}
 use lib.Dec.{eqb, leb}
-use lib.ListN.{length}
+use lib.ListN.{length, take}
 use Rattle.model.specs.declared.Context.{Context}
 use Rattle.model.specs.Buffers.{put}
 use Rattle.model.specs.Tables.{limit}
 use Rattle.model.specs.Events.{event}
 use Rattle.model.specs.Scopes.{has-scope, next-context}
 use Rattle.model.specs.Answers.{created}
-use Rattle.runs.specs.Book.{Report}
+use Rattle.runs.specs.Book.{Report, opened, book-table, book-reports, book-of}
 use Rattle.runs.specs.Runs.{Run, started, run-answer, run-after, run-report, run-reports, run-of}
 
 -- the table stays in its buffer: the event has no scope, and both buffers have the limit or more
@@ -52,9 +52,17 @@ unfoldable pub run-tables : Run → List (List ℕ) → List (List ℕ)
 run-tables s [] = []
 run-tables s (e ∷ es) = run-after s e .table ∷ run-tables (run-after s e) es
 
--- Such a run has the context, the tables and the reports of `run-of`, whatever the events and the buffers are.
+-- From a reset such a run has the context, the tables and the reports of `run-of`, whatever the events and the buffers
+-- are, and its buffer holds the table.
 pub record InPlace (c : Context) (es : List (List ℕ)) (a b : List ℕ) : Type 0 where
   pub context : in-place-of (started c a b) es .context ≡ run-of (started c a b) es .context
   pub table : in-place-of (started c a b) es .table ≡ run-of (started c a b) es .table
+  pub held : take (length (in-place-of (started c a b) es .table)) (in-place-of (started c a b) es .front) ≡ in-place-of (started c a b) es .table
   pub tables : in-place-tables (started c a b) es ≡ run-tables (started c a b) es
   pub reports : in-place-reports (started c a b) es ≡ run-reports (started c a b) es
+
+-- And so, with two buffers of at least the limit, they are the book's.
+pub record InPlaceByTheBook (c : Context) (es : List (List ℕ)) (a b : List ℕ) : Type 0 where
+  pub context : in-place-of (started c a b) es .context ≡ book-of (opened c) es .context
+  pub table : in-place-of (started c a b) es .table ≡ book-table (book-of (opened c) es)
+  pub reports : in-place-reports (started c a b) es ≡ book-reports (opened c) es

@@ -1,16 +1,12 @@
 -- The context and the table in force, the table in one of two buffers, and what one event does to them.
-use Prim.Native.Nat.{ℕ, _+_, _-_, _≤_}
+use Prim.Native.Nat.{ℕ, _≤_}
 use mathlib.Core.Bool.{Bool, true, cond, not, _&&_}
 use mathlib.Core.List.{List}
 use mathlib.Core.Path.{_≡_}
 use lib.Dec.{eqb}
 use lib.ListN.{length, take}
 use Rattle.model.specs.Tables.{limit, records}
-use Rattle.model.specs.Events.{event}
-use Rattle.model.specs.Scopes.{next-context}
-use Rattle.model.specs.Answers.{valid-table, created}
-use Rattle.model.specs.Steps.{new-table, dropped-count}
-use Rattle.laws.specs.Steps.{creation}
+use Rattle.model.specs.Answers.{valid-table}
 use Rattle.runs.specs.Runs.{Run, run-answer, run-report}
 use Rattle.runs.specs.InPlace.{stays, in-place-after}
 use Rattle.states.specs.declared.State.{State}
@@ -41,38 +37,6 @@ moves s e = eqb (run-answer s e) 0 && not (stays s e)
 -- whether the first buffer holds the table after an event, as it does or does not before it
 unfoldable pub side-after : Bool → Run → List ℕ → Bool
 side-after first s e = cond (moves s e) (not first) first
-
--- what a refused event leaves and tells, and an accepted one whose table stays or moves; t is the table
-unfoldable pub refused : State → ℕ → Applied
-refused s answer = record { state = s; answer = answer; dropped = 0 }
-
-unfoldable pub extended : State → List ℕ → Applied
-extended s e =
-    record {
-      state =
-          record {
-            context = next-context (s .context) (event e);
-            length = s .length + length (created e);
-            records = s .records + length (creation e);
-            first = s .first;
-          };
-      answer = 0;
-      dropped = 0;
-    }
-
-unfoldable pub exchanged : State → List ℕ → List ℕ → Applied
-exchanged s t e =
-    record {
-      state =
-          record {
-            context = next-context (s .context) (event e);
-            length = length (new-table (s .context) t e);
-            records = (s .records - dropped-count (s .context) t e) + length (creation e);
-            first = not (s .first);
-          };
-      answer = 0;
-      dropped = dropped-count (s .context) t e;
-    }
 
 -- what one event does: the buffer that then holds the table, the run that the state stands for, the side, and what is
 -- told

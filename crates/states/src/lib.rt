@@ -12,7 +12,8 @@ ghost use Rattle.model.specs.Tables.{limit};
 ghost use Rattle.model.specs.Events.{event};
 ghost use Rattle.model.specs.Answers.{valid-here, created};
 ghost use Rattle.model.specs.Steps.{new-table};
-ghost use Rattle.states.specs.States.{Holds, holds-at, refused, extended, exchanged, AppliesTo, Applies};
+ghost use Rattle.states.specs.States.{Holds, holds-at, AppliesTo, Applies};
+ghost use Rattle.states.specs.Outcomes.{refused, extended, exchanged};
 
 // The context in force, and the table: the first bytes of one of the two buffers, and how many records they are.
 pub struct State {
@@ -40,7 +41,7 @@ fn refuse(state: State, answer: u64) -> Applied
     }
 }
 
-// An accepted event without a scope leaves the table in its buffer; a creation is written behind it.
+// The table stays in its buffer, with a creation behind it.
 fn extend(state: State, e: Event, raw: &[u8], buffer: &mut [u8]) -> Applied
     requires { ⌜ e ≡ event (now raw) ⌝ }
     requires { ⌜ state .length + length (created (now raw)) ≤ length (now buffer) ⌝ }
@@ -62,7 +63,7 @@ fn extend(state: State, e: Event, raw: &[u8], buffer: &mut [u8]) -> Applied
     }
 }
 
-// Any other accepted event writes the new table into the other buffer.
+// The new table goes into the other buffer.
 fn exchange(state: State, e: Event, raw: &[u8], front: &[u8], back: &mut [u8]) -> Applied
     requires { ⌜ Holds state (now front) ⌝ }
     requires { ⌜ in-range (state .context) ≡ true ⌝ }
@@ -100,7 +101,7 @@ fn exchange(state: State, e: Event, raw: &[u8], front: &[u8], back: &mut [u8]) -
     }
 }
 
-// One event on the table in the front buffer. The table is not judged again: it is one that such an event left.
+// One event on the table in the front buffer. The table is not judged again: it is held, and so valid.
 fn apply_to(state: State, event: &[u8], front: &mut [u8], back: &mut [u8]) -> Applied
     requires { ⌜ Holds state (now front) ⌝ }
     ensures { λ r. ⌜ AppliesTo state (now (event .entry)) (now (front .entry)) (now (back .entry)) r (now (front .exit)) (now (back .exit)) ⌝ }

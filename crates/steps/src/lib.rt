@@ -98,7 +98,7 @@ pub fn step_read(
 
 // One event on a context and a table to which answers 1 to 3 do not apply, and whose number of records is known:
 // answers 4 to 12, and what `step` writes.
-pub fn step_judged(c: Context, table: &[u8], count: usize, event: &[u8], new: &mut [u8]) -> Step
+fn step_judged(c: Context, table: &[u8], count: usize, event: &[u8], new: &mut [u8]) -> Step
     requires { ⌜ first (table-grounds c (now table)) ≡ 0 ⌝ }
     requires { ⌜ count ≡ length (records (now table)) ⌝ }
     ensures { λ r. ⌜ r ≡ stepped c (now (table .entry)) (now (event .entry)) (length (now (new .entry))) ⌝ }

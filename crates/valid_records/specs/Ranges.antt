@@ -5,5 +5,5 @@ use Rattle.model.specs.declared.Mapping.{Mapping}
 use Rattle.model.specs.Context.{pcid-in-range}
 
 -- "Global is 0 or 1. PCID is at most 4,095."
-unfoldable pub tags-in-range : Mapping → Bool
-tags-in-range m = leb (m .global) 1 && pcid-in-range (m .pcid)
+unfoldable pub pcid-and-mark-in-range : Mapping → Bool
+pcid-and-mark-in-range m = leb (m .global) 1 && pcid-in-range (m .pcid)

@@ -6,7 +6,7 @@ ghost use lib.Dec.{eqb, ltb};
 ghost use Prim.Native.Nat.{_*_, _%_, _^_, _≤_};
 ghost use Rattle.model.specs.Layouts.{kind-of};
 ghost use Rattle.model.specs.Mappings.{mapping, wide, Held, fields-in-range};
-ghost use Rattle.valid_records.specs.Ranges.{tags-in-range};
+ghost use Rattle.valid_records.specs.Ranges.{pcid-and-mark-in-range};
 ghost use Rattle.valid_records.specs.Lengths.{length-at};
 
 // The page is below a limit, and a multiple of the span's pages.
@@ -22,9 +22,9 @@ fn is_page(limit: u64, span: u64, page: u64) -> bool
 
 // The PCID and the global mark of the record at the front are in their ranges, where its kind has them. The bytes are
 // read in any case, so that no branch is taken on the kind.
-fn is_tag_in_range(part: &[u8]) -> bool
+fn is_pcid_and_mark_in_range(part: &[u8]) -> bool
     requires { ⌜ Held (now part) ⌝ }
-    ensures { λ r. ⌜ r ≡ tags-in-range (mapping (now (part .entry))) ⌝ }
+    ensures { λ r. ⌜ r ≡ pcid-and-mark-in-range (mapping (now (part .entry))) ⌝ }
 {
     let kind = mappings::kind(part);
     let global = numbers::number1(part, 5);
@@ -49,7 +49,7 @@ fn is_narrow_in_ranges(part: &[u8]) -> bool
     if !is_page(model::PAGE_LIMIT, span, page) {
         return false;
     }
-    is_tag_in_range(part)
+    is_pcid_and_mark_in_range(part)
 }
 
 // The same for a kind of 57 bits.
@@ -68,7 +68,7 @@ fn is_wide_in_ranges(part: &[u8]) -> bool
     if !is_page(model::WIDE_PAGE_LIMIT, span, page) {
         return false;
     }
-    is_tag_in_range(part)
+    is_pcid_and_mark_in_range(part)
 }
 
 // The fields of the record at the front are in their ranges.

@@ -16,7 +16,7 @@ returns : tie.Need-returns
 returns c =
     let a = c .before .before .before .before .args in
     let none = created-other (now (a .raw)) (sym (c .before .is-creation .ensures) ∙ not-true _ (c .if1 .taken)) in
-    rw none (sym (add-zero (a .at)), sym (put-nil (a .at) (now (a .new))))
+    rw none (sym (add-zero (a .at)), sym (put-nil (a .at) (now (a .buffer))))
 
 -- the bytes of a creation
 whole : (c : tie.Else1) → created (now (c .before .before .before .before .args .raw)) ≡ now (c .before .before .before .before .args .raw)

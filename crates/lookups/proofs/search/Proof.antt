@@ -8,13 +8,13 @@ use lib.ListN.{length}
 use Rattle.model.specs.declared.Context.{Context}
 use Rattle.model.specs.declared.Address.{Address}
 use Rattle.laws.specs.Tables.{Next, held-of-whole, next-of-whole}
-use Rattle.lookups.specs.Search.{Seeks}
+use Rattle.lookups.specs.Search.{AsksForUsable}
 use Rattle.lookups.specs.Laws.Searching.{Searching, search-start, search-end, search-skip, search-next, search-found}
 use Rattle.lookups.proofs.search.Statement.{statement}
 use Rattle.lookups.proofs.search.Tie as tie
 
 abbrev Inv-loop : tie.InvT-loop
-Inv-loop table k asked at₀ left₀ at left = (c : Context) (a : Address) → Seeks c a asked → Searching c a table k at left
+Inv-loop table k asked at₀ left₀ at left = (c : Context) (a : Address) → AsksForUsable c a asked → Searching c a table k at left
 
 abbrev μ-loop : tie.MeasureT-loop
 μ-loop table k asked at₀ left₀ at left = length table - at

@@ -15,7 +15,7 @@ use Rattle.laws.specs.Lists.{getD-behind}
 use Rattle.laws.specs.Lookups.{start-of-false, start-of-true, start-of-zero}
 use Rattle.laws.specs.Tables.{rest-of-drop, records-drop-end, only-true, only-false, Next, whole-rest, held-of-whole}
 use Rattle.lookups.specs.declared.Sought.{Sought}
-use Rattle.lookups.specs.Search.{seeks, Seeks, Searched}
+use Rattle.lookups.specs.Search.{seeks, AsksForUsable, Searched}
 
 -- the k-th usable record of the table is the one of number `left` in the rest, which is whole
 pub record Searching (c : Context) (a : Address) (t : List ℕ) (k at left : ℕ) : Type 0 where
@@ -38,7 +38,7 @@ search-end {t} {at} s e =
     }
 
 -- a turn, at a record of n bytes; b is what is read as whether it is sought
-module _ {c : Context} {a : Address} {t : List ℕ} {k at left n : ℕ} {b : Bool} {q : Sought} (s : Searching c a t k at left) (asked : Seeks c a q) (next : Next t at n) (says : b ≡ seeks q (take (length t - at) (drop at t))) where
+module _ {c : Context} {a : Address} {t : List ℕ} {k at left n : ℕ} {b : Bool} {q : Sought} (s : Searching c a t k at left) (asked : AsksForUsable c a q) (next : Next t at n) (says : b ≡ seeks q (take (length t - at) (drop at t))) where
   of-front : usable c a (mapping (take n (drop at t))) ≡ b
   of-front =
       let held = held-of-whole t at (s .rest) (omega (arith, next .some, next .within)) in

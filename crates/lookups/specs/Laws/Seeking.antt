@@ -19,7 +19,7 @@ use Rattle.model.specs.Lookups.{translates-linear, usable}
 use Rattle.laws.specs.Layouts.{at-rows, of-mapping-kind, agrees, agrees-true, lacks-field, field-lacks}
 use Rattle.laws.specs.Mappings.{vpid-held, pcid-held}
 use Rattle.lookups.specs.declared.Sought.{Sought}
-use Rattle.lookups.specs.Search.{kinds-with, of-kind-and-vpid, of-pcid-and-ep4ta, seeks, Seeks}
+use Rattle.lookups.specs.Search.{kinds-with, of-kind-and-vpid, of-pcid-and-ep4ta, seeks, AsksForUsable}
 
 -- ---- kinds and their fields
 
@@ -66,7 +66,7 @@ asking vpid kinds others pcid ep4ta page =
     record { vpid = vpid; kinds = kinds; others = others; pcid = pcid; ep4ta = ep4ta; page = page }
 
 -- no kind is asked for, and no record is usable
-pub seeks-nothing : (c : Context) (a : Address) (s : Sought) → (s .kinds ≡ 0) × (s .others ≡ 0) → ((m : Mapping) → usable c a m ≡ false) → Seeks c a s
+pub seeks-nothing : (c : Context) (a : Address) (s : Sought) → (s .kinds ≡ 0) × (s .others ≡ 0) → ((m : Mapping) → usable c a m ≡ false) → AsksForUsable c a s
 unfolding seeks of-kind-and-vpid kinds-with
 seeks-nothing c a s none unusable =
     record { same = λ r held. rw (none .0, none .1, cond-same, set-of r held 0 (λ k. false) refl) (sym (unusable (mapping r))) }
@@ -106,7 +106,7 @@ module _ (c : Context) (address : ℕ) where
   not-canonical is m = rw is
 
   pub seeks-linear : canonical (c .«linear_width») address ≡ true → current-ept (c .place) ≡ Off
-      → Seeks c (Linear address) (asking (current-vpid (c .place)) 0x292 0 (c .pcid) 0 (page-of (c .«linear_width») address))
+      → AsksForUsable c (Linear address) (asking (current-vpid (c .place)) 0x292 0 (c .pcid) 0 (page-of (c .«linear_width») address))
   unfolding seeks of-kind-and-vpid kinds-with of-pcid-and-ep4ta usable translates-linear linear guest-physical
   seeks-linear canonically off =
       record {
@@ -119,7 +119,7 @@ module _ (c : Context) (address : ℕ) where
       }
 
   pub seeks-combined : (ep4ta : ℕ) → canonical (c .«linear_width») address ≡ true → current-ept (c .place) ≡ On ep4ta
-      → Seeks c (Linear address) (asking (current-vpid (c .place)) 0x548 0 (c .pcid) ep4ta (page-of (c .«linear_width») address))
+      → AsksForUsable c (Linear address) (asking (current-vpid (c .place)) 0x548 0 (c .pcid) ep4ta (page-of (c .«linear_width») address))
   unfolding seeks of-kind-and-vpid kinds-with of-pcid-and-ep4ta usable translates-linear combined guest-physical
   seeks-combined ep4ta canonically on =
       record {
@@ -138,7 +138,7 @@ module _ (c : Context) (address : ℕ) where
   ept-off off m = rw (off, and-false)
 
   pub seeks-guest-physical : (ep4ta : ℕ) → guest-physical-in-range address ≡ true → current-ept (c .place) ≡ On ep4ta
-      → Seeks c (GuestPhysical address) (asking 0 0x24 0x24 0 ep4ta (guest-physical-page-of address))
+      → AsksForUsable c (GuestPhysical address) (asking 0 0x24 0x24 0 ep4ta (guest-physical-page-of address))
   unfolding seeks of-kind-and-vpid kinds-with of-pcid-and-ep4ta usable guest-physical
   seeks-guest-physical ep4ta within on =
       record {

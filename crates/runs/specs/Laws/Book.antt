@@ -11,10 +11,9 @@ use Rattle.model.specs.Tables.{only, count}
 use Rattle.model.specs.Events.{event}
 use Rattle.model.specs.Scopes.{next-context}
 use Rattle.model.specs.Steps.{in-scope}
-use Rattle.model.specs.Answers.{rule-with}
+use Rattle.model.specs.Answers.{rule-with, creation}
 use Rattle.runs.specs.Book.{Note, taken-by, stands, standing, lost, Book, book-answer, added, book-after, book-report}
 use Rattle.laws.specs.Lists.{cond-append}
-use Rattle.laws.specs.Steps.{creation}
 
 -- whether a record is taken, and a noted creation stands, when one more note is added
 pub taken-by-append : (notes : List Note) (n : Note) (r : List ℕ)

@@ -5,7 +5,7 @@ use mathlib.Core.Bool.{Bool, true, false, cond, not, _&&_, and-eq-true-iff}
 use mathlib.Core.List.{List, [], _∷_, _++_}
 use native.Mathlib.Omega.{arith}
 use lib.Dec.{eqb, leb}
-use lib.ListN.{length}
+use lib.ListN.{length, take, length-append, length-take}
 use borrow.Author.Tests.{leb-true, not-true, ne-eqb}
 use Rattle.model.specs.declared.Context.{Context}
 use Rattle.model.specs.declared.Step.{Step}
@@ -15,11 +15,12 @@ use Rattle.model.specs.Events.{event}
 use Rattle.model.specs.Scopes.{has-scope}
 use Rattle.model.specs.Answers.{answer, created}
 use Rattle.model.specs.Steps.{new-table, stepped}
-use Rattle.laws.specs.Buffers.{length-put-least}
+use Rattle.laws.specs.Buffers.{take-put, take-put-front, length-put-least}
 use Rattle.laws.specs.Steps.{new-table-unscoped, stepped-room}
 use Rattle.runs.specs.Book.{Report}
 use Rattle.runs.specs.Runs.{Run, started, run-answer, run-after, report, run-report, run-reports, run-of}
-use Rattle.runs.specs.InPlace.{stays, in-place, in-place-after, in-place-reports, in-place-of, in-place-tables, run-tables, InPlace}
+use Rattle.runs.specs.InPlace.{stays, in-place, in-place-after, in-place-reports, in-place-of, in-place-tables, run-tables, InPlace, InPlaceByTheBook}
+use Rattle.runs.specs.Laws.First.{first-run-holds}
 use Rattle.runs.specs.Laws.Steps.{by-answer, run-after-accepted, run-after-refused, Tabled, tabled-whole, tabled-started, tabled-after, Sound, sound-answer, sound-after}
 
 -- an event that leaves the table in its buffer has no scope, and both buffers are long
@@ -187,13 +188,63 @@ tables-alike s s′ (e ∷ es) t k =
     let after = alike-trans (in-place-alike s e (tabled-alike k t)) (alike-after e k) in
     ap₂ (λ x xs. x ∷ xs) (alike-table after) (tables-alike (in-place-after s e) (run-after s′ e) es (tabled-after s′ e t) after)
 
+-- ---- the buffer holds the table
+
+unfoldable FrontHolds : Run → Type 0
+FrontHolds s = take (length (s .table)) (s .front) ≡ s .table
+
+front-holds-run : (s : Run) (e : List ℕ) → FrontHolds s → FrontHolds (run-after s e)
+unfolding FrontHolds
+front-holds-run s e h =
+    by-answer (run-answer s e) (λ z. rw (run-after-accepted s e z) (take-put-front (new-table (s .context) (s .table) e) (s .back))) (λ some. rw (run-after-refused s e some) h)
+
+front-holds-in-place : (s : Run) (e : List ℕ) → FrontHolds s → FrontHolds (in-place s e)
+unfolding FrontHolds
+front-holds-in-place s e h = by-answer (run-answer s e) accepted (λ some. rw (in-place-refused s e some) h)
+  where
+    within : length (s .table) ≤ length (s .front)
+    within = omega (arith, ap length h, length-take (length (s .table)) (s .front))
+
+    accepted : run-answer s e ≡ 0 → take (length (in-place s e .table)) (in-place s e .front) ≡ in-place s e .table
+    accepted z =
+        rw (in-place-accepted s e z, length-append (s .table) (created e), take-put (length (s .table)) (created e) (s .front) within, h)
+
+front-holds-after : (s : Run) (e : List ℕ) → FrontHolds s → FrontHolds (in-place-after s e)
+unfolding in-place-after
+front-holds-after s e h = go (stays s e)
+  where
+    go : (b : Bool) → FrontHolds (cond b (in-place s e) (run-after s e))
+    go true = front-holds-in-place s e h
+    go false = front-holds-run s e h
+
+front-holds-of : (s : Run) (es : List (List ℕ)) → FrontHolds s → FrontHolds (in-place-of s es)
+unfolding in-place-of
+front-holds-of s [] h = h
+front-holds-of s (e ∷ es) h = front-holds-of (in-place-after s e) es (front-holds-after s e h)
+
+front-holds-started : (c : Context) (a b : List ℕ) → FrontHolds (started c a b)
+unfolding FrontHolds started
+front-holds-started c a b = refl
+
 pub in-place-holds : (c : Context) (es : List (List ℕ)) (a b : List ℕ) → InPlace c es a b
+unfolding FrontHolds
 in-place-holds c es a b =
     let begun = tabled-started c a b in
     let done = alike-of (started c a b) (started c a b) es begun (one refl) in
     record {
       context = alike-context done;
       table = alike-table done;
+      held = front-holds-of (started c a b) es (front-holds-started c a b);
       tables = tables-alike (started c a b) (started c a b) es begun (one refl);
       reports = reports-alike (started c a b) (started c a b) es begun (one refl);
+    }
+
+pub in-place-by-the-book : (c : Context) (es : List (List ℕ)) (a b : List ℕ) → limit ≤ length a → limit ≤ length b → InPlaceByTheBook c es a b
+in-place-by-the-book c es a b h k =
+    let same = in-place-holds c es a b in
+    let book = first-run-holds c es a b h k in
+    record {
+      context = same .context ∙ book .context;
+      table = same .table ∙ book .table;
+      reports = same .reports ∙ book .reports;
     }

@@ -8,7 +8,7 @@ use lib.ListN.{take}
 use Rattle.model.specs.declared.Step.{Step}
 use Rattle.model.specs.Steps.{dropped-count, accepted-step}
 use Rattle.laws.specs.Steps.{length-creation}
-use Rattle.states.specs.States.{exchanged}
+use Rattle.states.specs.Outcomes.{exchanged}
 use Rattle.states.specs.Laws.States.{length-table, few-records, dropped-few, holds-judged}
 use Rattle.states.proofs.exchange.Statement.{statement}
 use Rattle.states.proofs.exchange.Tie as tie

@@ -5,7 +5,7 @@ use native.Mathlib.Omega.{arith}
 use denote.Ref.{now}
 use Rattle.model.specs.Scopes.{next-context}
 use Rattle.laws.specs.Steps.{length-creation}
-use Rattle.states.specs.States.{extended}
+use Rattle.states.specs.Outcomes.{extended}
 use Rattle.states.proofs.extend.Statement.{statement}
 use Rattle.states.proofs.extend.Tie as tie
 

@@ -1,6 +1,6 @@
 -- The fields as they were given.
 use mathlib.Core.Path.{refl}
-use Rattle.states.specs.States.{refused}
+use Rattle.states.specs.Outcomes.{refused}
 use Rattle.states.proofs.refuse.Statement.{statement}
 use Rattle.states.proofs.refuse.Tie as tie
 

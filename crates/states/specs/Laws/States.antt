@@ -12,19 +12,20 @@ use Rattle.model.specs.declared.Context.{Context}
 use Rattle.model.specs.Buffers.{put}
 use Rattle.model.specs.Context.{in-range, after-reset}
 use Rattle.model.specs.Tables.{limit, records}
-use Rattle.model.specs.Answers.{first, table-grounds, answer, created}
+use Rattle.model.specs.Answers.{first, table-grounds, answer, created, creation}
 use Rattle.model.specs.Steps.{in-scope, new-table, dropped-count}
 use Rattle.laws.specs.Buffers.{take-put, take-put-front, length-put-least}
 use Rattle.laws.specs.Tables.{records-nil, count-le, records-valid, length-valid, length-joined-records}
 use Rattle.laws.specs.Answers.{Accepted, accepted-parts, table-grounds-whole}
-use Rattle.laws.specs.Steps.{creation, length-records-new-table, length-new-table, new-table-unscoped, dropped-count-unscoped}
+use Rattle.laws.specs.Steps.{length-records-new-table, length-new-table, new-table-unscoped, dropped-count-unscoped}
 use Rattle.runs.specs.Runs.{Run, started, run-answer, run-after, run-report}
 use Rattle.runs.specs.InPlace.{stays, in-place, in-place-after}
 use Rattle.runs.specs.Laws.Steps.{run-answer-is, run-after-accepted, run-after-refused, run-report-accepted, run-report-refused, Tabled, tabled-whole, tabled-started, tabled-after}
 use Rattle.runs.specs.Laws.InPlace.{Stays, stays-parts, in-place-refused, in-place-alike, tabled-alike}
 use Rattle.states.specs.declared.State.{State}
 use Rattle.states.specs.declared.Applied.{Applied}
-use Rattle.states.specs.States.{run-on, run-at, Holds, holds-at, moves, side-after, refused, extended, exchanged, AppliesTo, Applies}
+use Rattle.states.specs.States.{run-on, run-at, Holds, holds-at, moves, side-after, AppliesTo, Applies}
+use Rattle.states.specs.Outcomes.{refused, extended, exchanged}
 
 -- a refused event leaves the run as it was
 in-place-after-refused : (s : Run) (e : List ℕ) → (run-answer s e ≡ 0 → ⊥) → in-place-after s e ≡ s

@@ -1,4 +1,4 @@
--- A span or a page out of its range decides; else the tags do.
+-- A span or a page out of its range decides; else PCID and global mark do.
 use borrow.Author.Needs.{needs}
 use Prim.Native.Nat.{_*_, _%_, _^_}
 use mathlib.Core.Path.{_≡_, refl, sym, _∙_}
@@ -49,7 +49,7 @@ returns-2 : tie.Need-returns-2
 returns-2 c = sym (ranges-off-page _ (sym (paged (c .before)) ∙ not-true _ (c .if2 .taken)))
 
 returns-3 : tie.Need-returns-3
-returns-3 c = c .is-tag-in-range .ensures ∙ ranges-on _ (on (c .before .before .before .before .before)) (sym (paged (c .before .before)) ∙ not-false _ (c .before .if2 .left))
+returns-3 c = c .is-pcid-and-mark-in-range .ensures ∙ ranges-on _ (on (c .before .before .before .before .before)) (sym (paged (c .before .before)) ∙ not-false _ (c .before .if2 .left))
 
 pub is-wide-in-ranges-spec : {M : Type 1} → statement M
 is-wide-in-ranges-spec =

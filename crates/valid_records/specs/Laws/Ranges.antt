@@ -12,7 +12,7 @@ use Rattle.model.specs.Mappings.{mapping, Held, guest-physical, structure-cache
 use Rattle.model.specs.declared.Mapping.{Mapping}
 use Rattle.laws.specs.Layouts.{of-mapping-kind, agrees, agrees-true}
 use Rattle.laws.specs.Mappings.{pcid-held, global-held}
-use Rattle.valid_records.specs.Ranges.{tags-in-range}
+use Rattle.valid_records.specs.Ranges.{pcid-and-mark-in-range}
 
 where-false : {b x : Bool} → b ≡ false → cond b true x ≡ true → x ≡ true
 where-false is h = rw is at h
@@ -49,7 +49,7 @@ span-below k s = go (structure-cache k) (wide k)
     go true false e = omega (arith, leb-true s 3 (and-eq-true-iff (leb 1 s) (leb s 3) .0 e .1))
     go false w e = omega (arith, leb-true s 2 e)
 
--- a span or a page out of its range puts the fields out of theirs; else the tags decide
+-- a span or a page out of its range puts the fields out of theirs; else PCID and global mark decide
 module _ (m : Mapping) where
   pub ranges-off : span-in-range (m .kind) (m .span) ≡ false → fields-in-range m ≡ false
   unfolding fields-in-range
@@ -59,8 +59,8 @@ module _ (m : Mapping) where
   unfolding fields-in-range
   ranges-off-page off = rw (off, and-false)
 
-  pub ranges-on : span-in-range (m .kind) (m .span) ≡ true → page-in-range (m .kind) (m .span) (m .page) ≡ true → tags-in-range m ≡ fields-in-range m
-  unfolding fields-in-range tags-in-range
+  pub ranges-on : span-in-range (m .kind) (m .span) ≡ true → page-in-range (m .kind) (m .span) (m .page) ≡ true → pcid-and-mark-in-range m ≡ fields-in-range m
+  unfolding fields-in-range pcid-and-mark-in-range
   ranges-on span page = rw (span, page, and-true, and-true)
 
 -- a field that a kind lacks is 0, and so in its range
@@ -68,12 +68,12 @@ leb-where : (b : Bool) (x n : ℕ) → (not b || leb x n) ≡ leb (cond b x 0) n
 leb-where true x n = refl
 leb-where false x n = sym (leb·zero n)
 
--- the tags' ranges, by tests of the kind and of the bytes where some kinds have them
-pub tags-tests : (r : List ℕ) → Held r
+-- the ranges of PCID and global mark, by tests of the kind and of the bytes where some kinds have them
+pub pcid-and-mark-tests : (r : List ℕ) → Held r
     → ((not (global-marked (mapping r .kind)) || leb (number 1 5 r) 1) && (guest-physical (mapping r .kind) || leb (number 2 3 r) 4095))
-    ≡ tags-in-range (mapping r)
-unfolding tags-in-range
-tags-tests r held =
+    ≡ pcid-and-mark-in-range (mapping r)
+unfolding pcid-and-mark-in-range
+pcid-and-mark-tests r held =
     rw (
       leb-where (global-marked (mapping r .kind)) (number 1 5 r) 1,
       ← Bool·not-not (guest-physical (mapping r .kind)),

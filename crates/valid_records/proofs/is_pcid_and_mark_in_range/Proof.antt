@@ -2,9 +2,9 @@
 use borrow.Author.Needs.{needs}
 use native.Mathlib.Omega.{arith}
 use Rattle.laws.specs.Mappings.{held-length}
-use Rattle.valid_records.specs.Laws.Ranges.{tags-tests}
-use Rattle.valid_records.proofs.is_tag_in_range.Statement.{statement}
-use Rattle.valid_records.proofs.is_tag_in_range.Tie as tie
+use Rattle.valid_records.specs.Laws.Ranges.{pcid-and-mark-tests}
+use Rattle.valid_records.proofs.is_pcid_and_mark_in_range.Statement.{statement}
+use Rattle.valid_records.proofs.is_pcid_and_mark_in_range.Tie as tie
 
 number1-requires : tie.Need-number1-requires
 number1-requires c κs = omega (arith, held-length _ (c .before .before .pre))
@@ -21,10 +21,10 @@ returns c =
       c .before .before .before .number1 .ensures .0,
       c .before .before .before .before .kind .ensures,
     )
-    (tags-tests _ (c .before .before .before .before .before .before .pre))
+    (pcid-and-mark-tests _ (c .before .before .before .before .before .before .pre))
 
-pub is-tag-in-range-spec : {M : Type 1} → statement M
-is-tag-in-range-spec =
+pub is-pcid-and-mark-in-range-spec : {M : Type 1} → statement M
+is-pcid-and-mark-in-range-spec =
     tie.close
     (tie.spec
     (λ c κs. search needs)
