@@ -35,6 +35,7 @@ fn filter(
     ensures { λ r. ⌜ Filters (λ m. passed (query-tests q m)) (now (table .entry)) (now (new .entry)) r (now (new .exit)) ⌝ }
     ensures { λ _. ⌜ Carries counting (left (λ m. passed (query-tests q m)) (now (table .entry))) (now (cells .entry)) (now (pcids .entry)) (now (cells .exit)) (now (pcids .exit)) ⌝ }
 {
+    let kinds = queries::kinds_by_vpid(q);
     let mut at = 0;
     let mut from = 0;
     let mut to = 0;
@@ -42,7 +43,7 @@ fn filter(
     while at < table.len() {
         let part = &table[at..];
         let end = at + mappings::length_of_held(part);
-        if queries::is_passing(q, part) {
+        if queries::is_passing(q, kinds, part) {
             if counting {
                 tallies::take_off(part, cells, pcids);
             }

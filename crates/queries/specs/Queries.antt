@@ -1,18 +1,20 @@
 -- What a query asks of a mapping, as the tests of document 01's scopes.
-use Prim.Native.Nat.{ℕ}
+use Prim.Native.Nat.{ℕ, _+_}
 use mathlib.Core.Bool.{Bool, true, false, cond, not, _&&_, _||_}
+use mathlib.Core.List.{List}
 use mathlib.Core.Path.{_≡_}
 use lib.Dec.{eqb}
 use Rattle.model.specs.declared.Mapping.{Mapping}
 use Rattle.model.specs.declared.Reason.{Reason}
 use Rattle.model.specs.declared.Reason.the-variants.{WrongPcid, WrongEp4ta, NotCovering, SparedAsGlobal, InScope}
-use Rattle.model.specs.Bits.{bit}
+use Rattle.model.specs.Bits.{bit, number}
 use Rattle.model.specs.Layouts.{mapping-kind}
-use Rattle.model.specs.Mappings.{guest-physical, structure-cache, global-translation, covers}
+use Rattle.model.specs.Mappings.{mapping, Held, guest-physical, structure-cache, global-translation, covers}
 use Rattle.model.specs.Scopes.{Tests}
 use Rattle.model.specs.Reasons.{unless, first-failed}
 use Rattle.queries.specs.declared.Tags.{Tags}
 use Rattle.queries.specs.declared.Query.{Query}
+use Rattle.queries.specs.declared.KindsByVpid.{KindsByVpid}
 
 -- tags by their parts
 abbrev pub touching : ℕ → Bool → Bool → Tags
@@ -78,3 +80,22 @@ query-tests q m =
 -- of every mapping of a known kind the query's first failed test is that of the given tests
 pub record Meets (tests : Mapping → Tests) (q : Query) : Type 0 where
   pub same : (m : Mapping) → mapping-kind (m .kind) ≡ true → first-failed (query-tests q m) ≡ first-failed (tests m)
+
+-- the guest-physical kinds of a set of kinds, and what is left of it beside a tag that is touched or not
+unfoldable pub guest-physical-of : ℕ → ℕ
+guest-physical-of kinds = cond (bit 2 kinds) 4 0 + cond (bit 5 kinds) 32 0
+
+unfoldable pub kinds-where : Bool → ℕ → ℕ
+kinds-where tag kinds = cond tag kinds (guest-physical-of kinds)
+
+-- the kinds beside a VPID
+unfoldable pub kinds-with : KindsByVpid → ℕ → ℕ
+kinds-with s vpid = cond (eqb vpid (s .vpid)) (s .same) (s .others)
+
+-- of the record at the front; the VPID is read off the two bytes where linear and combined mappings have theirs
+unfoldable pub of-kind-and-vpid : KindsByVpid → List ℕ → Bool
+of-kind-and-vpid s r = bit (mapping r .kind) (kinds-with s (number 2 1 r))
+
+-- the kinds by VPID say of every held record what the query's tests of kind and VPID say
+pub record Splits (q : Query) (s : KindsByVpid) : Type 0 where
+  pub same : (r : List ℕ) → Held r → of-kind-and-vpid s r ≡ (query-tests q (mapping r) .kind && query-tests q (mapping r) .vpid)

@@ -6,7 +6,10 @@ ghost use mathlib.Core.Path.{_≡_};
 ghost use Rattle.model.specs.Mappings.{mapping, Held};
 ghost use Rattle.model.specs.Scopes.{passed};
 ghost use Rattle.model.specs.Reasons.{first-failed};
-ghost use Rattle.queries.specs.Queries.{touching, any, only, all-but, no-tags, touched, of-pcid, of-ep4ta, covers-asked, at-page, not-spared, further-failed, further-passed, query-tests};
+ghost use Rattle.queries.specs.Queries.{touching, any, only, all-but, no-tags, touched, of-pcid, of-ep4ta, covers-asked, at-page, not-spared, further-failed, further-passed, query-tests, guest-physical-of, kinds-where, kinds-with, of-kind-and-vpid, Splits};
+
+// All kinds of mappings, bit k for kind k.
+const ALL: u64 = 0x7FE;
 
 // The tags that are touched, of VPIDs, PCIDs or EP4TAs: whether one tag is, and whether all others are.
 pub struct Tags {
@@ -82,6 +85,26 @@ fn is_touched(tags: Tags, tag: u64) -> bool
     }
 }
 
+// The guest-physical kinds of a set of kinds.
+fn guest_physical_of(kinds: u64) -> u64
+    ensures { λ r. ⌜ r ≡ guest-physical-of kinds ⌝ }
+{
+    let translations = if kinds::is_among(kinds, 2) { 4 } else { 0 };
+    let structures = if kinds::is_among(kinds, 5) { 32 } else { 0 };
+    translations + structures
+}
+
+// Those of the kinds that are touched beside a tag that is touched or not: a guest-physical mapping is asked for no VPID
+// and no PCID.
+fn kinds_where(touched: bool, kinds: u64) -> u64
+    ensures { λ r. ⌜ r ≡ kinds-where touched kinds ⌝ }
+{
+    if touched {
+        return kinds;
+    }
+    guest_physical_of(kinds)
+}
+
 // The record's kind is touched.
 fn is_of_kind(q: Query, part: &[u8]) -> bool
     requires { ⌜ Held (now part) ⌝ }
@@ -99,15 +122,19 @@ fn is_of_vpid(q: Query, part: &[u8]) -> bool
     kinds::is_guest_physical(mappings::kind(part)) | is_touched(tags, mappings::vpid_bytes(part))
 }
 
-// Its PCID is touched; a guest-physical mapping has none to ask for.
+// Its PCID is touched; a guest-physical mapping has none to ask for. The kind is asked by a set, since a branch on it
+// would be mispredicted.
 fn is_of_pcid(q: Query, part: &[u8]) -> bool
     requires { ⌜ Held (now part) ⌝ }
     ensures { λ r. ⌜ r ≡ of-pcid q (mapping (now (part .entry))) ⌝ }
 {
     let tags = q.pcid;
     let own = is_touched(tags, mappings::pcid(part));
-    kinds::is_guest_physical(mappings::kind(part))
-        | (own | (q.global & mappings::is_global_translation(part)))
+    let kinds = kinds_where(
+        own | (q.global & mappings::is_global_translation(part)),
+        ALL,
+    );
+    kinds::is_among(kinds, mappings::kind(part))
 }
 
 // Its EP4TA is touched.
@@ -208,13 +235,49 @@ fn is_passing_further(q: Query, part: &[u8]) -> bool
     is_not_spared(q, part)
 }
 
-// The record passes every test. Kind and VPID are asked at once: a table mixes its records, and a branch for
+// The kinds that are touched beside one VPID, and beside any other; bit k for kind k.
+pub struct KindsByVpid {
+    pub vpid: u64,
+    pub same: u64,
+    pub others: u64,
+}
+
+// The kinds of a query by VPID, which `is_passing` takes.
+pub fn kinds_by_vpid(q: Query) -> KindsByVpid
+    ensures { λ r. ⌜ Splits q r ⌝ }
+{
+    let tags = q.vpid;
+    KindsByVpid {
+        vpid: tags.tag,
+        same: kinds_where(tags.same, q.kinds),
+        others: kinds_where(tags.others, q.kinds),
+    }
+}
+
+// The kinds beside a VPID.
+fn kinds_with(s: KindsByVpid, vpid: u64) -> u64
+    ensures { λ r. ⌜ r ≡ kinds-with s vpid ⌝ }
+{
+    if vpid == s.vpid { s.same } else { s.others }
+}
+
+// The record's kind is touched beside its VPID. A table mixes its records: so the two are one test, since a branch for
 // each would be mispredicted.
-pub fn is_passing(q: Query, part: &[u8]) -> bool
+fn is_of_kind_and_vpid(s: KindsByVpid, part: &[u8]) -> bool
     requires { ⌜ Held (now part) ⌝ }
+    ensures { λ r. ⌜ r ≡ of-kind-and-vpid s (now (part .entry)) ⌝ }
+{
+    let kinds = kinds_with(s, mappings::vpid_bytes(part));
+    kinds::is_among(kinds, mappings::kind(part))
+}
+
+// The record passes every test. The query's kinds by VPID are worked out once, before all records.
+pub fn is_passing(q: Query, s: KindsByVpid, part: &[u8]) -> bool
+    requires { ⌜ Held (now part) ⌝ }
+    requires { ⌜ Splits q s ⌝ }
     ensures { λ r. ⌜ r ≡ passed (query-tests q (mapping (now (part .entry)))) ⌝ }
 {
-    if !(is_of_kind(q, part) & is_of_vpid(q, part)) {
+    if !is_of_kind_and_vpid(s, part) {
         return false;
     }
     if q.further {

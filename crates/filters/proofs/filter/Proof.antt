@@ -4,6 +4,7 @@ use Prim.Native.Nat.{_-_}
 use mathlib.Core.Logic.{⊎-elim}
 use mathlib.Core.Path.{_≡_, refl, sym, _∙_}
 use native.Mathlib.Omega.{arith}
+use borrow.Author.Needs.{needs}
 use denote.Ref.{now}
 use lib.ListN.{length, drop}
 use Rattle.model.specs.Mappings.{mapping}
@@ -16,15 +17,15 @@ use Rattle.filters.proofs.filter.Statement.{statement}
 use Rattle.filters.proofs.filter.Tie as tie
 
 abbrev Inv-loop : tie.InvT-loop
-Inv-loop q table counting cells₀ pcids₀ new₀ at₀ from₀ to₀ dropped₀ cells pcids new at from to dropped =
+Inv-loop q table counting cells₀ pcids₀ new₀ kinds at₀ from₀ to₀ dropped₀ cells pcids new at from to dropped =
     FilteringCounting (λ m. passed (query-tests q m)) table new₀ counting cells₀ pcids₀ cells pcids at from to dropped new
 
 abbrev μ-loop : tie.MeasureT-loop
-μ-loop q table counting cells₀ pcids₀ new₀ at₀ from₀ to₀ dropped₀ cells pcids new at from to dropped = length table - at
+μ-loop q table counting cells₀ pcids₀ new₀ kinds at₀ from₀ to₀ dropped₀ cells pcids new at from to dropped = length table - at
 
 loop-holds : tie.Need-loop-holds Inv-loop μ-loop
 loop-holds c =
-    let s = c .before .before .before .before in
+    let s = c .before .before .before .before .before in
     record {
       filtering = filtering-start _ _ _ (s .pre .0) (s .pre .1 .0);
       cells-long = refl;
@@ -46,18 +47,19 @@ length-of-held-requires : tie.Need-length-of-held-requires Inv-loop μ-loop
 length-of-held-requires c κs = held-of-whole _ _ (c .before .before .loop .inv .filtering .rest) (c .before .loop-test .taken)
 
 -- the record at the position
-next : (c : tie.After-length-of-held Inv-loop μ-loop) → Next (now (c .before .before .before .before .before .before .before .before .args .table)) (c .before .before .before .loop .at) (c .length-of-held .result)
+next : (c : tie.After-length-of-held Inv-loop μ-loop) → Next (now (c .before .before .before .before .before .before .before .before .before .args .table)) (c .before .before .before .loop .at) (c .length-of-held .result)
 next c = next-of-whole _ _ (c .before .before .before .loop .inv .filtering .rest) (c .before .before .loop-test .taken) (c .length-of-held .ensures)
 
 add-end : tie.Need-add-end Inv-loop μ-loop
 add-end c = omega (arith, next c .within)
 
 is-passing-requires : tie.Need-is-passing-requires Inv-loop μ-loop
-is-passing-requires c κs = held-of-whole _ _ (c .before .before .before .loop .inv .filtering .rest) (c .before .before .loop-test .taken)
+is-passing-requires c κs =
+    (held-of-whole _ _ (c .before .before .before .loop .inv .filtering .rest) (c .before .before .loop-test .taken), c .before .before .before .before .kinds-by-vpid .ensures)
 
 -- whether it passes
 told : (c : tie.After-is-passing Inv-loop μ-loop)
-    → c .is-passing .result ≡ passed (query-tests (c .before .before .before .before .before .before .before .before .before .args .q) (mapping (drop (c .before .before .before .before .loop .at) (now (c .before .before .before .before .before .before .before .before .before .args .table)))))
+    → c .is-passing .result ≡ passed (query-tests (c .before .before .before .before .before .before .before .before .before .before .args .q) (mapping (drop (c .before .before .before .before .loop .at) (now (c .before .before .before .before .before .before .before .before .before .before .args .table)))))
 told c = rw rest-of-drop at (c .is-passing .ensures)
 
 take-off-requires : tie.Need-take-off-requires Inv-loop μ-loop
@@ -138,6 +140,7 @@ filter-spec =
     (tie.spec
     Inv-loop
     μ-loop
+    (λ c κs. search needs)
     loop-holds
     sub-part
     part-part-start

@@ -1,14 +1,10 @@
 -- The test by its two parts; the bytes of a guest-physical mapping do not count.
-use mathlib.Core.Bool.{Bool, true, false, _||_}
-use mathlib.Core.Path.{_≡_, refl, ap}
+use mathlib.Core.Path.{ap}
 use borrow.Author.Needs.{needs}
 use Rattle.queries.specs.Queries.{touched, query-tests}
+use Rattle.queries.specs.Laws.Splitting.{either}
 use Rattle.queries.proofs.is_of_vpid.Statement.{statement}
 use Rattle.queries.proofs.is_of_vpid.Tie as tie
-
-either : (b : Bool) {x y : Bool} → (b ≡ false → x ≡ y) → (b || x) ≡ (b || y)
-either true same = refl
-either false same = same refl
 
 returns : tie.Need-returns
 unfolding query-tests
