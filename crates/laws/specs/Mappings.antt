@@ -12,9 +12,18 @@ use lib.Seq.{getD-take, length-take-le}
 use borrow.Author.Tests.{eqb-true, leb-true, le-leb, lt-leb}
 use Rattle.model.specs.Bits.{number}
 use Rattle.model.specs.Layouts.{Field, Sort, sort-number, kind-of, mapping-kind, body-of, length-of}
-use Rattle.model.specs.Mappings.{mapping, Held, of-sort, linear, guest-physical, combined, structure-cache, wide, other-width, global-marked, fields-in-range, starts-record, record-length}
+use Rattle.model.specs.Mappings.{mapping, Held, of-sort, linear, guest-physical, combined, structure-cache, wide, other-width, global-marked, span-in-range, fields-in-range, starts-record, record-length}
 use Rattle.laws.specs.Lists.{Agree, agree-append, agree-take}
 use Rattle.laws.specs.Layouts.{of-mapping-kind, field-by-test, mapping-kind-below, small-eqb, small-range, small-or, by-test, in-set, by-set, row-test-known, kind-agree, field-agree, length-of-positive}
+
+-- a span in its kind's range is at most 4
+pub span-in-range-le : (k s : ℕ) → span-in-range k s ≡ true → s ≤ 4
+span-in-range-le k s = go (structure-cache k) (wide k)
+  where
+    go : (b w : Bool) → cond b (leb 1 s && leb s (cond w 4 3)) (leb s 2) ≡ true → s ≤ 4
+    go true true e = leb-true s 4 (and-eq-true-iff (leb 1 s) (leb s 4) .0 e .1)
+    go true false e = omega (arith, leb-true s 3 (and-eq-true-iff (leb 1 s) (leb s 3) .0 e .1))
+    go false w e = omega (arith, leb-true s 2 e)
 
 -- only a known kind has a sort, is a structure cache, or carries a global mark
 of-sort-known : (s : Sort) (k : ℕ) → of-sort s k ≡ true → mapping-kind k ≡ true

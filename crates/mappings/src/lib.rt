@@ -5,7 +5,7 @@ ghost use mathlib.Core.Bool.{false};
 ghost use mathlib.Core.Path.{_≡_};
 ghost use Rattle.model.specs.Bits.{number};
 ghost use Rattle.model.specs.Layouts.{kind-of, length-of};
-ghost use Rattle.model.specs.Mappings.{mapping, guest-physical, Held, global-translation, covers};
+ghost use Rattle.model.specs.Mappings.{mapping, guest-physical, wide, Held, global-translation, covers};
 ghost use Rattle.mappings.specs.Spans.{SpanAt};
 
 // The kind of the record at the front.
@@ -35,20 +35,29 @@ pub fn span(part: &[u8]) -> u64
 // What the sixth byte of a number counts.
 const SIXTH_BYTE: u64 = 1099511627776;
 
-// The page of the record at the front: five bytes, and a sixth where the kind is of 57 bits. The sixth is read in any
-// case, so that the compiler needs no branch.
-fn page(part: &[u8]) -> u64
+// The page of the record at the front: five bytes, and a sixth where the kind is of 57 bits, which is handed in. The sixth
+// is read in any case, so that the compiler needs no branch.
+pub fn page_as(part: &[u8], is_wide: bool) -> u64
     requires { ⌜ Held (now part) ⌝ }
+    requires { ⌜ «is_wide» ≡ wide (mapping (now part) .kind) ⌝ }
     ensures { λ r. ⌜ r ≡ mapping (now (part .entry)) .page ⌝ }
 {
     let at = span_at(part) + 1;
     let five = numbers::number5(part, at);
     let sixth = numbers::number1(part, at + 5);
-    if kinds::is_wide(kind(part)) {
+    if is_wide {
         five + SIXTH_BYTE * sixth
     } else {
         five
     }
+}
+
+// The page of the record at the front.
+fn page(part: &[u8]) -> u64
+    requires { ⌜ Held (now part) ⌝ }
+    ensures { λ r. ⌜ r ≡ mapping (now (part .entry)) .page ⌝ }
+{
+    page_as(part, kinds::is_wide(kind(part)))
 }
 
 // The frame of the record at the front, or its structure.

@@ -20,7 +20,7 @@ use Rattle.model.specs.Context.{in-range, after-reset}
 use Rattle.model.specs.Layouts.{kind-of, mapping-kind, event-kind, body-of, length-of, field}
 use Rattle.model.specs.Mappings.{mapping, structure-cache, global-marked, fields-in-range, starts-record, other-width, wide, record-length, covers}
 use Rattle.model.specs.Tables.{joined, cut, records-within, records, whole, of-width, only, count}
-use Rattle.model.specs.Events.{canonical, operands, violation, entry, new-pcid, event, event-in-range, valid-event}
+use Rattle.model.specs.Events.{canonical, page-of, guest-physical-page-of, operands, violation, entry, new-pcid, event, event-in-range, valid-event}
 use Rattle.model.specs.Scopes.{invvpid-tests, invept-tests, invlpg-tests, guest-physical-violation-tests, combined-violation-tests, violation-tests, transition-tests, invpcid-tests, mov-to-cr3-tests, has-scope, scope, entered, next-context}
 use Rattle.model.specs.Answers.{first, good-eptp, eptp-rule, own-rule, rule-with, invvpid-supported, bad-invvpid, invept-supported, bad-invept, bad-invpcid, invalid-opcode, exits, general-protection, bad-entry, creatable, own-ground, created, no-room, valid-table, table-grounds, event-grounds, grounds, answer}
 use Rattle.model.specs.Steps.{new-table, dropped-count, accepted-step, refused-step, stepped, written}
@@ -747,7 +747,8 @@ limited =
     && not (no-room 47104 (replicate 47104 0) (25 ∷ []))
     && no-room 47103 (replicate 47104 0) (25 ∷ [])
 
--- the limit is one at both widths; any linear width but 57 is read as 48; and a reset keeps the number as it is
+-- the limit is one at both widths; any linear width but 57 is read as 48; a page has the bits from 12 to 47 or 56, a
+-- guest-physical one to 47, and no more; and a reset keeps the number as it is
 widths : Bool
 widths =
     eqb (answer root-57 (replicate 47104 0) (25 ∷ []) 50000) 3
@@ -755,6 +756,9 @@ widths =
     && not (canonical 56 (2 ^ 47))
     && not (canonical 58 (2 ^ 47))
     && canonical 0 0xFFFF800000000000
+    && eqb (page-of 48 (2 ^ 64 - 1)) (2 ^ 36 - 1)
+    && eqb (page-of 57 (2 ^ 64 - 1)) (2 ^ 45 - 1)
+    && eqb (guest-physical-page-of (2 ^ 64 - 1)) (2 ^ 36 - 1)
     && other-width 56 7
     && not (other-width 56 1)
     && valid-event 58 A

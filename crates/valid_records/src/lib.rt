@@ -1,11 +1,11 @@
 // The record reader: whether the fields of a record are in their ranges, and the length of a valid record. A record is
 // handed in as the part of the table that starts at its kind byte; what follows the record is not looked at.
-ghost use mathlib.Core.Bool.{true, false, _&&_};
+ghost use mathlib.Core.Bool.{true, _&&_};
 ghost use mathlib.Core.Path.{_≡_};
 ghost use lib.Dec.{eqb, ltb};
 ghost use Prim.Native.Nat.{_*_, _%_, _^_, _≤_};
-ghost use Rattle.model.specs.Layouts.{kind-of};
-ghost use Rattle.model.specs.Mappings.{mapping, wide, Held, fields-in-range};
+ghost use Rattle.model.specs.Layouts.{kind-of, mapping-kind};
+ghost use Rattle.model.specs.Mappings.{mapping, wide, Held, fields-in-range, record-length};
 ghost use Rattle.valid_records.specs.Ranges.{pcid-and-mark-in-range};
 ghost use Rattle.valid_records.specs.Lengths.{length-at};
 
@@ -33,39 +33,22 @@ fn is_pcid_and_mark_in_range(part: &[u8]) -> bool
         & (kinds::is_guest_physical(kind) | (pcid <= model::PCID_MAX))
 }
 
-// The fields of the record at the front, which is not of a kind of 57 bits, are in their ranges.
-fn is_narrow_in_ranges(part: &[u8]) -> bool
+// The fields of the record at the front are in their ranges. Whether its kind is of 57 bits is handed in.
+fn is_in_ranges_as(part: &[u8], is_wide: bool) -> bool
     requires { ⌜ Held (now part) ⌝ }
-    requires { ⌜ wide (kind-of (now part)) ≡ false ⌝ }
+    requires { ⌜ «is_wide» ≡ wide (mapping (now part) .kind) ⌝ }
     ensures { λ r. ⌜ r ≡ fields-in-range (mapping (now (part .entry))) ⌝ }
 {
-    let kind = mappings::kind(part);
     let span = mappings::span(part);
-    let translation = kind <= 3;
-    if !((translation & (span <= 2)) | (!translation & ((1 <= span) & (span <= 3)))) {
+    if !kinds::is_span(mappings::kind(part), span) {
         return false;
     }
-    let page = numbers::number5(part, mappings::span_at(part) + 1);
-    if !is_page(model::PAGE_LIMIT, span, page) {
-        return false;
-    }
-    is_pcid_and_mark_in_range(part)
-}
-
-// The same for a kind of 57 bits.
-fn is_wide_in_ranges(part: &[u8]) -> bool
-    requires { ⌜ Held (now part) ⌝ }
-    requires { ⌜ wide (kind-of (now part)) ≡ true ⌝ }
-    ensures { λ r. ⌜ r ≡ fields-in-range (mapping (now (part .entry))) ⌝ }
-{
-    let kind = mappings::kind(part);
-    let span = mappings::span(part);
-    let translation = kind <= 8;
-    if !((translation & (span <= 2)) | (!translation & ((1 <= span) & (span <= 4)))) {
-        return false;
-    }
-    let page = numbers::number6(part, mappings::span_at(part) + 1);
-    if !is_page(model::WIDE_PAGE_LIMIT, span, page) {
+    let limit = if is_wide {
+        model::WIDE_PAGE_LIMIT
+    } else {
+        model::PAGE_LIMIT
+    };
+    if !is_page(limit, span, mappings::page_as(part, is_wide)) {
         return false;
     }
     is_pcid_and_mark_in_range(part)
@@ -76,48 +59,30 @@ pub fn is_in_ranges(part: &[u8]) -> bool
     requires { ⌜ Held (now part) ⌝ }
     ensures { λ r. ⌜ r ≡ fields-in-range (mapping (now (part .entry))) ⌝ }
 {
-    if kinds::is_wide(mappings::kind(part)) {
-        return is_wide_in_ranges(part);
-    }
-    is_narrow_in_ranges(part)
+    is_in_ranges_as(part, kinds::is_wide(mappings::kind(part)))
 }
 
-// The length of the valid record of a 57-bit table that starts at the front; 0 where none starts there. Its kind is
-// handed in.
-fn length_at_57(part: &[u8], kind: u64) -> usize
+// The length of the valid record at the front; 0 where there are too few bytes, or a field is out of its range. Its kind,
+// a mapping's, is handed in, and whether that is of 57 bits.
+fn length_as(part: &[u8], kind: u64, is_wide: bool) -> usize
     requires { ⌜ kind ≡ kind-of (now part) ⌝ }
-    ensures { λ r. ⌜ r ≡ length-at 57 (now (part .entry)) ⌝ }
+    requires { ⌜ mapping-kind kind ≡ true ⌝ }
+    requires { ⌜ «is_wide» ≡ wide kind ⌝ }
+    ensures { λ r. ⌜ r ≡ record-length (now (part .entry)) ⌝ }
 {
-    if !kinds::is_mapping_at(57, kind) {
-        return 0;
-    }
     let length = kinds::length_of_mapping(kind);
     if part.len() < length {
         return 0;
     }
-    if kinds::is_wide(kind) {
-        return if is_wide_in_ranges(part) { length } else { 0 };
+    if is_in_ranges_as(part, is_wide) {
+        length
+    } else {
+        0
     }
-    if is_narrow_in_ranges(part) { length } else { 0 }
-}
-
-// The length of the valid record of a 48-bit table that starts at the front, in the same way.
-fn length_at_48(part: &[u8], kind: u64) -> usize
-    requires { ⌜ kind ≡ kind-of (now part) ⌝ }
-    ensures { λ r. ⌜ r ≡ length-at 48 (now (part .entry)) ⌝ }
-{
-    if !kinds::is_mapping_at(48, kind) {
-        return 0;
-    }
-    let length = kinds::length_of_mapping(kind);
-    if part.len() < length {
-        return 0;
-    }
-    if is_narrow_in_ranges(part) { length } else { 0 }
 }
 
 // The length of the valid record of a linear width that starts at the front; 0 where none starts there. Any width but 57
-// is read as 48. Each width has its own way, so that the tests of the other are not made for each record.
+// is read as 48. No kind of 48 bits is wide, so that the compiler leaves out what is asked of those.
 pub fn length_at(width: u64, part: &[u8]) -> usize
     ensures { λ r. ⌜ r ≡ length-at width (now (part .entry)) ⌝ }
 {
@@ -125,8 +90,11 @@ pub fn length_at(width: u64, part: &[u8]) -> usize
         return 0;
     }
     let kind = numbers::number1(part, 0);
-    if width == 57 {
-        return length_at_57(part, kind);
+    if !kinds::is_mapping_at(width, kind) {
+        return 0;
     }
-    length_at_48(part, kind)
+    if width == 57 {
+        return length_as(part, kind, kinds::is_wide(kind));
+    }
+    length_as(part, kind, false)
 }

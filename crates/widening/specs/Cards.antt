@@ -18,7 +18,7 @@ use Rattle.laws.specs.Lists.{Every, none, more}
 use Rattle.laws.specs.Mappings.{Valid}
 use Rattle.laws.specs.Tables.{length-joined-cons, records-joined, joined-whole}
 use Rattle.laws.specs.Answers.{valid-table-made}
-use Rattle.widening.specs.Widening.{widened-page, rewritten, widened, widened-table, widening-grounds, widening-answer, widening, widening-written}
+use Rattle.widening.specs.Widening.{widened-kind, widened-page, rewritten, widened, widened-table, widening-grounds, widening-answer, widening, widening-written}
 
 -- what stands before and behind the page, in bytes that all differ: VPID, PCID, global and span, then the frame; and an
 -- EP4TA
@@ -64,6 +64,8 @@ new = joined ((7 ∷ before ++ bytes 6 (2 ^ 45 - 1) ++ behind) ∷ physical)
 
 -- Every row holds.
 record Rows : Type 0 where
+  -- kinds 1, 3, 4 and 6 become 7 to 10, and any other number stays
+  kinds : map widened-kind (0 ∷ 1 ∷ 2 ∷ 3 ∷ 4 ∷ 5 ∷ 6 ∷ 7 ∷ 8 ∷ 9 ∷ 10 ∷ 11 ∷ []) ≡ 0 ∷ 7 ∷ 2 ∷ 8 ∷ 9 ∷ 5 ∷ 10 ∷ 7 ∷ 8 ∷ 9 ∷ 10 ∷ 11 ∷ []
   -- the last page of the lower half stays, the first of the upper half gains, and the last
   pages : map widened-page (0 ∷ (2 ^ 35 - 1) ∷ 2 ^ 35 ∷ (2 ^ 36 - 1) ∷ []) ≡ 0 ∷ (2 ^ 35 - 1) ∷ (2 ^ 45 - 2 ^ 35) ∷ (2 ^ 45 - 1) ∷ []
   lower : map widened (narrow (2 ^ 35 - 2 ^ 9)) ≡ wider (2 ^ 35 - 2 ^ 9)
@@ -90,6 +92,7 @@ cards-hold : Rows
 unfolding bytes put before before-structure behind tag narrow wider physical old new kind-of mapping-kind body-of length-of field mapping linear guest-physical combined structure-cache wide other-width global-marked fields-in-range starts-record record-length joined cut records-within records whole of-width first valid-table rewritten widened widened-table widening-grounds widening-answer widening widening-written
 cards-hold =
     record {
+      kinds = refl;
       pages = refl;
       lower = refl;
       upper = refl;

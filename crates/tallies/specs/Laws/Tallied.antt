@@ -15,7 +15,7 @@ use Rattle.model.specs.Mappings.{mapping, linear, guest-physical, structure-cac
 use Rattle.model.specs.Tables.{count}
 use Rattle.laws.specs.Layouts.{of-mapping-kind}
 use Rattle.laws.specs.Tables.{count-nil}
-use Rattle.laws.specs.Mappings.{Starts, starts-parts}
+use Rattle.laws.specs.Mappings.{Starts, starts-parts, span-in-range-le}
 use Rattle.tallies.specs.Tallies.{row-of, cell-of, of-pcid, cell-counts, pcid-counts, raised, lowered, raised-by, lowered-by, by-pcid, cells-with, cells-without, pcids-with, pcids-without, Tallied, Countable, Counted}
 use Rattle.tallies.specs.Laws.Lists.{length-tabulate, tabulate-constant}
 use Rattle.tallies.specs.Laws.Counts.{counts-raised, counts-lowered, counts-same, counted-some, counts-few}
@@ -39,12 +39,7 @@ module _ (m : Mapping) (fields : fields-in-range m ≡ true) where
   pcid-below = omega (arith, leb-true (m .pcid) 4095 (parts .0))
 
   pub span-below : m .span < 5
-  span-below = go (structure-cache (m .kind)) (wide (m .kind)) (parts .1)
-    where
-      go : (b w : Bool) → cond b (leb 1 (m .span) && leb (m .span) (cond w 4 3)) (leb (m .span) 2) ≡ true → m .span < 5
-      go true true e = omega (arith, leb-true (m .span) 4 (and-eq-true-iff (leb 1 (m .span)) (leb (m .span) 4) .0 e .1))
-      go true false e = omega (arith, leb-true (m .span) 3 (and-eq-true-iff (leb 1 (m .span)) (leb (m .span) 3) .0 e .1))
-      go false w e = omega (arith, leb-true (m .span) 2 e)
+  span-below = omega (arith, span-in-range-le (m .kind) (m .span) (parts .1))
 
   pub cell-below : mapping-kind (m .kind) ≡ true → cell-of m < 30
   unfolding cell-of

@@ -39,16 +39,7 @@ length-at-empty w r none = go (other-width w (kind-of r))
     go true = refl
     go false = omega (arith, record-length-le r)
 
--- every width but 57 is read as 48
-pub other-width-48 : (w k : ℕ) → eqb w 57 ≡ false → other-width w k ≡ other-width 48 k
+-- a kind of 48 bits is not wide; every width but 57 is read as 48
+pub not-wide : (w k : ℕ) → eqb w 57 ≡ false → other-width w k ≡ false → wide k ≡ false
 unfolding other-width
-other-width-48 w k other = rw other
-
-pub length-at-48 : (w : ℕ) (r : List ℕ) → eqb w 57 ≡ false → length-at w r ≡ length-at 48 r
-unfolding length-at
-length-at-48 w r other = rw (other-width-48 w (kind-of r) other)
-
--- a kind of 48 bits is not wide
-pub not-wide : (k : ℕ) → other-width 48 k ≡ false → wide k ≡ false
-unfolding other-width
-not-wide k own = own
+not-wide w k narrow own = rw narrow at own

@@ -1,11 +1,11 @@
 -- Which tests say that the fields of a held record are in their ranges.
-use Prim.Native.Nat.{ℕ, _≤_}
+use Prim.Native.Nat.{ℕ, _-_, _*_, _%_, _^_, _≤_}
 use mathlib.Core.Bool.{Bool, true, false, cond, not, _&&_, _||_, and-true, and-false, or-false, and-eq-true-iff, Bool·not-not}
 use mathlib.Core.List.{List}
 use mathlib.Core.Path.{_≡_, refl, sym}
 use native.Mathlib.Omega.{arith}
 use borrow.Author.Tests.{leb-true}
-use lib.Dec.{leb, leb·zero}
+use lib.Dec.{eqb, leb, ltb, leb·zero}
 use Rattle.model.specs.Bits.{number}
 use Rattle.model.specs.Layouts.{mapping-kind}
 use Rattle.model.specs.Mappings.{mapping, Held, guest-physical, structure-cache, wide, global-marked, span-in-range, page-in-range, fields-in-range}
@@ -14,40 +14,11 @@ use Rattle.laws.specs.Layouts.{of-mapping-kind, agrees, agrees-true}
 use Rattle.laws.specs.Mappings.{pcid-held, global-held}
 use Rattle.valid_records.specs.Ranges.{pcid-and-mark-in-range}
 
-where-false : {b x : Bool} → b ≡ false → cond b true x ≡ true → x ≡ true
-where-false is h = rw is at h
-
-where-true : {b x : Bool} → b ≡ true → cond b x true ≡ true → x ≡ true
-where-true is h = rw is at h
-
--- the range of a span, by tests with no branch: of a kind that is not wide, and of one that is
-module _ (k s : ℕ) (known : mapping-kind k ≡ true) where
-  span-tests : {translation : Bool} {most : ℕ} → not (structure-cache k) ≡ translation → cond (wide k) 4 3 ≡ most
-      → ((translation && leb s 2) || (not translation && (leb 1 s && leb s most))) ≡ span-in-range k s
-  span-tests told is = rw (← told, ← is) (go (structure-cache k))
-    where
-      go : (b : Bool) → ((not b && leb s 2) || (not (not b) && (leb 1 s && leb s (cond (wide k) 4 3)))) ≡ cond b (leb 1 s && leb s (cond (wide k) 4 3)) (leb s 2)
-      go true = refl
-      go false = or-false (leb s 2)
-
-  pub narrow-span-tests : wide k ≡ false → ((leb k 3 && leb s 2) || (not (leb k 3) && (leb 1 s && leb s 3))) ≡ span-in-range k s
-  unfolding structure-cache wide
-  narrow-span-tests narrow =
-      span-tests (agrees-true _ _ (where-false narrow (of-mapping-kind (λ k. cond (wide k) true (agrees (not (structure-cache k)) (leb k 3))) refl k known))) (rw narrow)
-
-  pub wide-span-tests : wide k ≡ true → ((leb k 8 && leb s 2) || (not (leb k 8) && (leb 1 s && leb s 4))) ≡ span-in-range k s
-  unfolding structure-cache wide
-  wide-span-tests is =
-      span-tests (agrees-true _ _ (where-true is (of-mapping-kind (λ k. cond (wide k) (agrees (not (structure-cache k)) (leb k 8)) true) refl k known))) (rw is)
-
--- a span in its kind's range is at most 4
-pub span-below : (k s : ℕ) → span-in-range k s ≡ true → s ≤ 4
-span-below k s = go (structure-cache k) (wide k)
-  where
-    go : (b w : Bool) → cond b (leb 1 s && leb s (cond w 4 3)) (leb s 2) ≡ true → s ≤ 4
-    go true true e = leb-true s 4 (and-eq-true-iff (leb 1 s) (leb s 4) .0 e .1)
-    go true false e = omega (arith, leb-true s 3 (and-eq-true-iff (leb 1 s) (leb s 3) .0 e .1))
-    go false w e = omega (arith, leb-true s 2 e)
+-- the range of a page, with its limit as a number
+pub page-tests : (w : Bool) (s page : ℕ)
+    → (ltb page (cond w 35184372088832 68719476736) && eqb (page % 2 ^ (9 * s)) 0) ≡ (ltb page (2 ^ (cond w 57 48 - 12)) && eqb (page % 2 ^ (9 * s)) 0)
+page-tests true s page = refl
+page-tests false s page = refl
 
 -- a span or a page out of its range puts the fields out of theirs; else PCID and global mark decide
 module _ (m : Mapping) where
