@@ -10,7 +10,7 @@ ghost use lib.ListN.{length};
 ghost use Rattle.model.specs.Buffers.{put};
 ghost use Rattle.model.specs.Tables.{records};
 ghost use Rattle.model.specs.Events.{event};
-ghost use Rattle.model.specs.Answers.{first, valid-here, table-grounds, created};
+ghost use Rattle.model.specs.Answers.{first, valid-here, table-grounds, created, answer, rule-with};
 ghost use Rattle.model.specs.Steps.{new-table, accepted-step, refusal, stepped, written};
 ghost use Rattle.tallies.specs.Tallies.{Tallied, Carries};
 ghost use Rattle.steps.specs.Counts.{records-after};
@@ -63,6 +63,37 @@ pub fn perform(
     }
 }
 
+// Why a step is refused: its answer, and the rule of the EPTP that goes with it; 0 and 0 where the event is accepted.
+pub struct Ground {
+    pub answer: u64,
+    pub rule: u64,
+}
+
+// Answers 5 to 12, to a valid event on a context and a table to which answers 1 to 4 do not apply, with a new buffer of
+// so many bytes.
+pub fn ground_of_event(c: Context, e: Event, table: &[u8], raw: &[u8], room: usize) -> Ground
+    requires { ⌜ first (table-grounds c (now table)) ≡ 0 ⌝ }
+    requires { ⌜ valid-here c (now raw) ≡ true ⌝ }
+    requires { ⌜ e ≡ event (now raw) ⌝ }
+    ensures { λ r. ⌜ r .answer ≡ answer c (now (table .entry)) (now (raw .entry)) room ⌝ }
+    ensures { λ r. ⌜ r .rule ≡ rule-with c (now (raw .entry)) (r .answer) ⌝ }
+{
+    let answer = answers::answer_to_event(c, e);
+    if answer != 0 {
+        return Ground {
+            answer,
+            rule: answers::rule_with_answer(c, e, answer),
+        };
+    }
+    if creations::is_without_room(room, table, raw) {
+        return Ground {
+            answer: 12,
+            rule: 0,
+        };
+    }
+    Ground { answer: 0, rule: 0 }
+}
+
 // One valid event on a context and a table to which answers 1 to 4 do not apply, and whose number of records is known:
 // answers 5 to 12, and what `step` writes. Where the records are counted, those of the table after it are;
 // else the counts stay.
@@ -86,12 +117,9 @@ pub fn step_read(
     ensures { λ _. ⌜ now (new .exit) ≡ written c (now (table .entry)) (now (raw .entry)) (now (new .entry)) ⌝ }
     ensures { λ _. ⌜ Carries counting (records-after c (now (table .entry)) (now (raw .entry)) (length (now (new .entry)))) (now (cells .entry)) (now (pcids .entry)) (now (cells .exit)) (now (pcids .exit)) ⌝ }
 {
-    let answer = answers::answer_to_event(c, e);
-    if answer != 0 {
-        return refused(answer, answers::rule_with_answer(c, e, answer), c);
-    }
-    if creations::is_without_room(new.len(), table, raw) {
-        return refused(12, 0, c);
+    let ground = ground_of_event(c, e, table, raw, new.len());
+    if ground.answer != 0 {
+        return refused(ground.answer, ground.rule, c);
     }
     perform(c, e, table, count, raw, counting, cells, pcids, new)
 }
