@@ -113,12 +113,9 @@ fn apply_to(state: State, event: &[u8], front: &mut [u8], back: &mut [u8]) -> Ap
     let EventReading::Read(e) = events::read_event(context.linear_width, event) else {
         return refuse(state, 4);
     };
-    let answer = answers::answer_to_event(context, e);
-    if answer != 0 {
-        return refuse(state, answer);
-    }
-    if creations::is_without_room(back.len(), &front[..state.length], event) {
-        return refuse(state, 12);
+    let ground = steps::ground_of_event(context, e, &front[..state.length], event, back.len());
+    if ground.answer != 0 {
+        return refuse(state, ground.answer);
     }
     let long = (model::TABLE_LIMIT <= front.len()) & (model::TABLE_LIMIT <= back.len());
     if long & !scopes::has_scope(context, e) {

@@ -2,8 +2,8 @@
 use borrow.Author.Needs.{needs}
 use borrow.Author.Tests.{not-true, not-false}
 use Prim.Native.Nat.{_+_, _≤_}
-use mathlib.Core.Bool.{Bool, true, cond, not, _&&_}
-use mathlib.Core.Path.{_≡_, refl, sym, ap, _∙_}
+use mathlib.Core.Bool.{true, not, _&&_}
+use mathlib.Core.Path.{_≡_, sym, _∙_}
 use native.Mathlib.Omega.{arith}
 use denote.Ref.{now}
 use lib.Dec.{leb}
@@ -11,10 +11,9 @@ use lib.ListN.{length, take}
 use Rattle.model.specs.Context.{in-range}
 use Rattle.model.specs.Tables.{limit}
 use Rattle.model.specs.Events.{event}
-use Rattle.model.specs.Answers.{first, table-grounds, valid-here, event-answer, answer, created}
-use Rattle.laws.specs.Answers.{answer-of-table, answer-of-invalid, answer-of-event, answer-of-room, accepted-parts, table-grounds-out-of-range}
+use Rattle.model.specs.Answers.{first, table-grounds, valid-here, answer, created}
+use Rattle.laws.specs.Answers.{answer-of-table, answer-of-invalid, accepted-parts, table-grounds-out-of-range}
 use Rattle.laws.specs.Events.{valid-event-read, valid-event-invalid}
-use Rattle.laws.specs.Steps.{no-room-fits}
 use Rattle.runs.specs.InPlace.{stays}
 use Rattle.runs.specs.Laws.InPlace.{stays-parts}
 use Rattle.states.specs.States.{run-on}
@@ -40,95 +39,76 @@ returns-2 c =
     let is = answer-of-invalid (a .state .context) (take (a .state .length) (now (a .front))) (now (a .event)) (length (now (a .back))) judged invalid in
     rw (c .refuse2 .ensures) (applies-refused (a .state) (now (a .front)) (now (a .back)) (s .pre) (now (a .event)) 4 is (λ z. omega arith))
 
--- what is known once the event has an answer of its own
-fits : (c : tie.After-answer-to-event) → in-range (c .before .before .before .before .before .before .before .before .before .before .before .args .state .context) ≡ true
-fits c = sym (c .before .before .before .before .before .before .is-in-range .ensures) ∙ not-false _ (c .before .before .before .before .before .if1 .left)
+-- what is known once the event was read
+fits : (c : tie.After-known-told) → in-range (c .before .before .before .before .before .before .before .before .before .before .args .state .context) ≡ true
+fits c = sym (c .before .before .before .before .before .is-in-range .ensures) ∙ not-false _ (c .before .before .before .before .if1 .left)
 
-read : (c : tie.After-answer-to-event)
-    → (valid-here (c .before .before .before .before .before .before .before .before .before .before .before .args .state .context) (now (c .before .before .before .before .before .before .before .before .before .before .before .args .event)) ≡ true) × (c .before .before .e .given .0 .0 ≡ event (now (c .before .before .before .before .before .before .before .before .before .before .before .args .event)))
-read c = valid-event-read _ _ _ (sym (c .before .before .before .before .read-event .ensures) ∙ c .before .before .e .given .1)
+read : (c : tie.After-known-told)
+    → (valid-here (c .before .before .before .before .before .before .before .before .before .before .args .state .context) (now (c .before .before .before .before .before .before .before .before .before .before .args .event)) ≡ true) × (c .before .e .given .0 .0 ≡ event (now (c .before .before .before .before .before .before .before .before .before .before .args .event)))
+read c = valid-event-read _ _ _ (sym (c .before .before .before .read-event .ensures) ∙ c .before .e .given .1)
 
-told : (c : tie.After-answer-to-event) → c .answer-to-event .result ≡ event-answer (c .before .before .before .before .before .before .before .before .before .before .before .args .state .context) (event (now (c .before .before .before .before .before .before .before .before .before .before .before .args .event)))
-told c = c .answer-to-event .ensures ∙ ap (event-answer (c .before .before .before .before .before .before .before .before .before .before .before .args .state .context)) (read c .1)
-
-judged : (c : tie.After-answer-to-event) → first (table-grounds (c .before .before .before .before .before .before .before .before .before .before .before .args .state .context) (take (c .before .before .before .before .before .before .before .before .before .before .before .args .state .length) (now (c .before .before .before .before .before .before .before .before .before .before .before .args .front)))) ≡ 0
+judged : (c : tie.After-known-told) → first (table-grounds (c .before .before .before .before .before .before .before .before .before .before .args .state .context) (take (c .before .before .before .before .before .before .before .before .before .before .args .state .length) (now (c .before .before .before .before .before .before .before .before .before .before .args .front)))) ≡ 0
 judged c =
-    let s = c .before .before .before .before .before .before .before .before .before .before .before in
+    let s = c .before .before .before .before .before .before .before .before .before .before in
     holds-judged (s .args .state) (now (s .args .front)) (now (s .args .back)) (s .pre) (fits c)
+
+slice-aggregate-ground-of-event : tie.Need-slice-aggregate-ground-of-event
+slice-aggregate-ground-of-event c =
+    let s = c .before .before .before .before .before .before .before .before .before .before .before in
+    sym (length-table (s .args .state) (now (s .args .front)) (now (s .args .back)) (s .pre))
+
+ground-of-event-requires : tie.Need-ground-of-event-requires
+ground-of-event-requires c κs = let k = c .before in (judged k, read k)
 
 returns-3 : tie.Need-returns-3
 returns-3 c =
-    let s = c .before .before .before .before .before .before .before .before .before .before .before .before .before in
-    let a = s .args in
-    let some = c .before .if2 .taken in
-    let k = c .before .before in
-    let is = answer-of-event (a .state .context) (take (a .state .length) (now (a .front))) (now (a .event)) (length (now (a .back))) (judged k) (read k .0) (λ z. some (told k ∙ z)) ∙ sym (told k) in
-    rw (c .refuse3 .ensures) (applies-refused (a .state) (now (a .front)) (now (a .back)) (s .pre) (now (a .event)) _ is some)
-
-slice-aggregate-is-without-room : tie.Need-slice-aggregate-is-without-room
-slice-aggregate-is-without-room c =
-    let s = c .before .before .before .before .before .before .before .before .before .before .before .before .before in
-    sym (length-table (s .args .state) (now (s .args .front)) (now (s .args .back)) (s .pre))
-
--- the answer, where only room is left to judge
-last : (c : tie.After-is-without-room)
-    → answer (c .before .before .before .before .before .before .before .before .before .before .before .before .before .before .args .state .context) (take (c .before .before .before .before .before .before .before .before .before .before .before .before .before .before .args .state .length) (now (c .before .before .before .before .before .before .before .before .before .before .before .before .before .before .args .front))) (now (c .before .before .before .before .before .before .before .before .before .before .before .before .before .before .args .event)) (length (now (c .before .before .before .before .before .before .before .before .before .before .before .before .before .before .args .back))) ≡ cond (c .is-without-room .result) 12 0
-last c =
-    let a = c .before .before .before .before .before .before .before .before .before .before .before .before .before .before .args in
-    let k = c .before .before .before in
-    rw (c .is-without-room .ensures) (answer-of-room (a .state .context) (take (a .state .length) (now (a .front))) (now (a .event)) (length (now (a .back))) (judged k) (read k .0) (sym (told k) ∙ c .before .before .if2 .left))
-
-returns-4 : tie.Need-returns-4
-returns-4 c =
-    let s = c .before .before .before .before .before .before .before .before .before .before .before .before .before .before .before .before in
-    let a = s .args in
-    let is = last (c .before .before) ∙ ap (λ (b : Bool). cond b 12 0) (c .before .if3 .taken) in
-    rw (c .refuse4 .ensures) (applies-refused (a .state) (now (a .front)) (now (a .back)) (s .pre) (now (a .event)) 12 is (λ z. omega arith))
-
--- there is room
-accepted : (c : tie.Else3)
-    → answer (c .before .before .before .before .before .before .before .before .before .before .before .before .before .before .before .args .state .context) (take (c .before .before .before .before .before .before .before .before .before .before .before .before .before .before .before .args .state .length) (now (c .before .before .before .before .before .before .before .before .before .before .before .before .before .before .before .args .front))) (now (c .before .before .before .before .before .before .before .before .before .before .before .before .before .before .before .args .event)) (length (now (c .before .before .before .before .before .before .before .before .before .before .before .before .before .before .before .args .back))) ≡ 0
-accepted c = last (c .before) ∙ ap (λ (b : Bool). cond b 12 0) (c .if3 .left)
-
-room : (c : tie.Else3)
-    → c .before .before .before .before .before .before .before .before .before .before .before .before .before .before .before .args .state .length + length (created (now (c .before .before .before .before .before .before .before .before .before .before .before .before .before .before .before .args .event))) ≤ length (now (c .before .before .before .before .before .before .before .before .before .before .before .before .before .before .before .args .back))
-room c =
     let s = c .before .before .before .before .before .before .before .before .before .before .before .before .before .before .before in
-    omega (arith, length-table (s .args .state) (now (s .args .front)) (now (s .args .back)) (s .pre), no-room-fits _ _ _ (sym (c .before .is-without-room .ensures) ∙ c .if3 .left))
+    let a = s .args in
+    let is = sym (c .before .before .before .ground-of-event .ensures .0) in
+    rw (c .refuse3 .ensures) (applies-refused (a .state) (now (a .front)) (now (a .back)) (s .pre) (now (a .event)) _ is (c .before .if2 .taken))
+
+-- no ground applies
+accepted : (c : tie.Else2) → answer (c .before .before .before .before .before .before .before .before .before .before .before .before .before .before .args .state .context) (take (c .before .before .before .before .before .before .before .before .before .before .before .before .before .before .args .state .length) (now (c .before .before .before .before .before .before .before .before .before .before .before .before .before .before .args .front))) (now (c .before .before .before .before .before .before .before .before .before .before .before .before .before .before .args .event)) (length (now (c .before .before .before .before .before .before .before .before .before .before .before .before .before .before .args .back))) ≡ 0
+accepted c = sym (c .before .before .ground-of-event .ensures .0) ∙ c .if2 .left
+
+room : (c : tie.Else2) → c .before .before .before .before .before .before .before .before .before .before .before .before .before .before .args .state .length + length (created (now (c .before .before .before .before .before .before .before .before .before .before .before .before .before .before .args .event))) ≤ length (now (c .before .before .before .before .before .before .before .before .before .before .before .before .before .before .args .back))
+room c =
+    let s = c .before .before .before .before .before .before .before .before .before .before .before .before .before .before in
+    omega (arith, length-table (s .args .state) (now (s .args .front)) (now (s .args .back)) (s .pre), accepted-parts _ _ _ _ (accepted c) .fits)
 
 -- the table stays, or not, as was tested
 tested : (c : tie.After-has-scope)
-    → stays (run-on (c .before .before .before .before .before .before .before .before .before .before .before .before .before .before .before .before .args .state) (now (c .before .before .before .before .before .before .before .before .before .before .before .before .before .before .before .before .args .front)) (now (c .before .before .before .before .before .before .before .before .before .before .before .before .before .before .before .before .args .back))) (now (c .before .before .before .before .before .before .before .before .before .before .before .before .before .before .before .before .args .event))
-    ≡ (leb limit (length (now (c .before .before .before .before .before .before .before .before .before .before .before .before .before .before .before .before .args .front))) && leb limit (length (now (c .before .before .before .before .before .before .before .before .before .before .before .before .before .before .before .before .args .back))) && not (c .has-scope .result))
+    → stays (run-on (c .before .before .before .before .before .before .before .before .before .before .before .before .before .before .before .args .state) (now (c .before .before .before .before .before .before .before .before .before .before .before .before .before .before .before .args .front)) (now (c .before .before .before .before .before .before .before .before .before .before .before .before .before .before .before .args .back))) (now (c .before .before .before .before .before .before .before .before .before .before .before .before .before .before .before .args .event))
+    ≡ (leb limit (length (now (c .before .before .before .before .before .before .before .before .before .before .before .before .before .before .before .args .front))) && leb limit (length (now (c .before .before .before .before .before .before .before .before .before .before .before .before .before .before .before .args .back))) && not (c .has-scope .result))
 unfolding stays run-on
 tested c = rw (c .has-scope .ensures, read (c .before .before .before .before .before) .1)
 
 extend-requires : tie.Need-extend-requires
 unfolding run-on
 extend-requires c κs =
-    let s = c .before .before .before .before .before .before .before .before .before .before .before .before .before .before .before .before .before .before in
-    let stay = stays-parts _ _ (tested (c .before .before) ∙ c .before .if4 .taken) in
+    let s = c .before .before .before .before .before .before .before .before .before .before .before .before .before .before .before .before .before in
+    let stay = stays-parts _ _ (tested (c .before .before) ∙ c .before .if3 .taken) in
     (read (c .before .before .before .before .before .before .before) .1, (omega (arith, length-table (s .args .state) (now (s .args .front)) (now (s .args .back)) (s .pre), accepted-parts _ _ _ _ (accepted (c .before .before .before)) .short, stay .front), few-records (s .args .state) (now (s .args .front)) (now (s .args .back)) (s .pre)))
+
+returns-4 : tie.Need-returns-4
+returns-4 c =
+    let s = c .before .before .before .before .before .before .before .before .before .before .before .before .before .before .before .before .before .before .before .before in
+    let a = s .args in
+    let done = c .before .before .extend .ensures in
+    let stay = tested (c .before .before .before .before .before) ∙ c .before .before .before .before .if3 .taken in
+    rw (done .0, done .1) (applies-extended (a .state) (now (a .front)) (now (a .back)) (s .pre) (now (a .event)) (accepted (c .before .before .before .before .before .before)) stay)
+
+exchange-requires : tie.Need-exchange-requires
+exchange-requires c κs =
+    let s = c .before .before .before .before .before .before .before .before .before .before .before .before .before .before .before .before .before .before in
+    (s .pre, (fits (c .before .before .before .before .before .before .before .before), (read (c .before .before .before .before .before .before .before .before) .0, (read (c .before .before .before .before .before .before .before .before) .1, room (c .before .before .before .before)))))
 
 returns-5 : tie.Need-returns-5
 returns-5 c =
     let s = c .before .before .before .before .before .before .before .before .before .before .before .before .before .before .before .before .before .before .before .before .before in
     let a = s .args in
-    let done = c .before .before .extend .ensures in
-    let stay = tested (c .before .before .before .before .before) ∙ c .before .before .before .before .if4 .taken in
-    rw (done .0, done .1) (applies-extended (a .state) (now (a .front)) (now (a .back)) (s .pre) (now (a .event)) (accepted (c .before .before .before .before .before .before)) stay)
-
-exchange-requires : tie.Need-exchange-requires
-exchange-requires c κs =
-    let s = c .before .before .before .before .before .before .before .before .before .before .before .before .before .before .before .before .before .before .before in
-    (s .pre, (fits (c .before .before .before .before .before .before .before .before), (read (c .before .before .before .before .before .before .before .before) .0, (read (c .before .before .before .before .before .before .before .before) .1, room (c .before .before .before .before)))))
-
-returns-6 : tie.Need-returns-6
-returns-6 c =
-    let s = c .before .before .before .before .before .before .before .before .before .before .before .before .before .before .before .before .before .before .before .before .before .before in
-    let a = s .args in
     let done = c .before .before .exchange .ensures in
-    let move = tested (c .before .before .before .before .before .before) ∙ c .before .before .before .before .before .if4 .left in
+    let move = tested (c .before .before .before .before .before .before) ∙ c .before .before .before .before .before .if3 .left in
     rw (done .0, done .1) (applies-exchanged (a .state) (now (a .front)) (now (a .back)) (s .pre) (now (a .event)) (accepted (c .before .before .before .before .before .before .before)) move)
 
 pub apply-to-spec : {M : Type 1} → statement M
@@ -143,20 +123,17 @@ apply-to-spec =
     (λ c. search needs)
     (λ c κs. search needs)
     returns-2
+    (λ c. search needs)
+    slice-aggregate-ground-of-event
+    ground-of-event-requires
     (λ c κs. search needs)
-    (λ c κs. search needs)
+    (λ c. search needs)
     returns-3
-    (λ c. search needs)
-    slice-aggregate-is-without-room
-    (λ c κs. search needs)
-    (λ c κs. search needs)
-    (λ c. search needs)
-    returns-4
     (λ c κs. search needs)
     extend-requires
     (λ c. search needs)
-    returns-5
+    returns-4
     exchange-requires
     (λ c. search needs)
     (λ c. search needs)
-    returns-6)
+    returns-5)
