@@ -8,10 +8,6 @@ use Rattle.model.specs.Layouts.{Field, body-of, width-in, offset-in}
 abbrev pub number-at : ℕ → ℕ → ℕ
 number-at numbers place = numbers / 2 ^ (5 * place) % 32
 
--- the number of four bits at a place
-abbrev pub shape-at : ℕ → ℕ → ℕ
-shape-at shapes place = shapes / 2 ^ (4 * place) % 16
-
 -- where the field stands in a record or event of the kind, the kind byte at 0; 0 where the kind lacks it
 unfoldable pub place-of : Field → ℕ → ℕ
 place-of f kind = cond (eqb (width-in (body-of kind) f) 0) 0 (1 + offset-in (body-of kind) f)

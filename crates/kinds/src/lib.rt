@@ -9,17 +9,13 @@ ghost use Rattle.model.specs.Bits.{bit};
 ghost use Rattle.model.specs.Layouts.{Field, mapping-kind, event-kind, length-of};
 ghost use Rattle.model.specs.Mappings.{linear, guest-physical, combined, structure-cache, wide, other-width, global-marked, span-in-range};
 ghost use Rattle.laws.specs.Layouts.{in-set};
-ghost use Rattle.kinds.specs.Places.{number-at, shape-at, place-of};
+ghost use Rattle.kinds.specs.Places.{number-at, place-of};
 
 // Numbers by kind, five bits for each, the first kind's in the lowest: how long a record or event is, of kinds 0 to 11
 // and 16 to 27. An unknown kind has 0.
 const LENGTHS: u64 = 0x005A_3795_630B_4620;
 
 const LENGTHS_FROM_16: u64 = 0x01E4_2408_4709_2739;
-
-// The shape of a mapping's record, four bits for each kind: by how many bytes it is longer than 16, and in the highest
-// bit whether its span stands at 6 and not at 5.
-const SHAPES: u64 = 0x061F_A590_E990;
 
 // Where the EP4TA of a mapping's record stands, in five bits for each kind; 0 where it has none.
 const EP4TAS: u64 = 0x0044_1204_0208_8400;
@@ -36,6 +32,9 @@ const GUEST_PHYSICAL: u64 = 0x24;
 
 const GLOBAL_MARKED: u64 = 0x18A;
 
+// Those whose span stands at 6; that of the other mappings stands at 5.
+const SPAN_AT_6: u64 = 0x1AE;
+
 // Those whose linear addresses have 48 bits, and those of a 57-bit table.
 const NARROW: u64 = 0x5A;
 
@@ -47,14 +46,6 @@ fn number_at(numbers: u64, place: u64) -> usize
     ensures { λ r. ⌜ r ≡ number-at numbers place ⌝ }
 {
     ((numbers >> (5 * place)) % 32) as usize
-}
-
-// The shape at a place among such shapes.
-fn shape_at(shapes: u64, place: u64) -> u64
-    requires { ⌜ place < 12 ⌝ }
-    ensures { λ r. ⌜ r ≡ shape-at shapes place ⌝ }
-{
-    (shapes >> (4 * place)) % 16
 }
 
 // The kind is in a set of kinds.
@@ -149,7 +140,7 @@ pub fn length_of_mapping(kind: u64) -> usize
     requires { ⌜ mapping-kind kind ≡ true ⌝ }
     ensures { λ r. ⌜ r ≡ length-of kind ⌝ }
 {
-    (16 + shape_at(SHAPES, kind) % 8) as usize
+    number_at(LENGTHS, kind)
 }
 
 // Where the span stands in a mapping's record.
@@ -157,7 +148,7 @@ pub fn place_of_span(kind: u64) -> usize
     requires { ⌜ mapping-kind kind ≡ true ⌝ }
     ensures { λ r. ⌜ r ≡ place-of Field.span kind ⌝ }
 {
-    (5 + shape_at(SHAPES, kind) / 8) as usize
+    5 + ((SPAN_AT_6 >> kind) % 2) as usize
 }
 
 // The span is in the range of a mapping's kind.

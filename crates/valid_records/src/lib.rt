@@ -3,25 +3,23 @@
 ghost use mathlib.Core.Bool.{true, _&&_};
 ghost use mathlib.Core.Path.{_≡_};
 ghost use lib.Dec.{eqb, ltb};
-ghost use Prim.Native.Nat.{_*_, _%_, _^_, _≤_};
+ghost use Prim.Native.Nat.{_*_, _%_, _^_, _≤_, _<_};
 ghost use Rattle.model.specs.Layouts.{kind-of, mapping-kind};
 ghost use Rattle.model.specs.Mappings.{mapping, wide, Held, fields-in-range, record-length};
 ghost use Rattle.valid_records.specs.Ranges.{pcid-and-mark-in-range};
 ghost use Rattle.valid_records.specs.Lengths.{length-at};
 
-// The page is below a limit, and a multiple of the span's pages.
-fn is_page(limit: u64, span: u64, page: u64) -> bool
+// The page has so many bits at most, and is a multiple of the span's pages.
+fn is_page(bits: u64, span: u64, page: u64) -> bool
+    requires { ⌜ bits < 64 ⌝ }
     requires { ⌜ span ≤ 4 ⌝ }
-    ensures { λ r. ⌜ r ≡ (ltb page limit && eqb (page % 2 ^ (9 * span)) 0) ⌝ }
+    ensures { λ r. ⌜ r ≡ (ltb page (2 ^ bits) && eqb (page % 2 ^ (9 * span)) 0) ⌝ }
 {
-    if limit <= page {
-        return false;
-    }
-    page % (1 << (9 * span)) == 0
+    (page >> bits == 0) & (page % (1 << (9 * span)) == 0)
 }
 
-// The PCID and the global mark of the record at the front are in their ranges, where its kind has them. The bytes are
-// read in any case, so that no branch is taken on the kind.
+// The PCID and the global mark of the record at the front are in their ranges, where its kind has them: bits that must be
+// 0 are. The bytes are read in any case, so that no branch is taken on the kind.
 fn is_pcid_and_mark_in_range(part: &[u8]) -> bool
     requires { ⌜ Held (now part) ⌝ }
     ensures { λ r. ⌜ r ≡ pcid-and-mark-in-range (mapping (now (part .entry))) ⌝ }
@@ -29,8 +27,17 @@ fn is_pcid_and_mark_in_range(part: &[u8]) -> bool
     let kind = mappings::kind(part);
     let global = numbers::number1(part, 5);
     let pcid = numbers::number2(part, 3);
-    (!kinds::is_global_marked(kind) | (global <= 1))
-        & (kinds::is_guest_physical(kind) | (pcid <= model::PCID_MAX))
+    let global_bits = if kinds::is_global_marked(kind) {
+        0xFE
+    } else {
+        0
+    };
+    let pcid_bits = if kinds::is_guest_physical(kind) {
+        0
+    } else {
+        0xF000
+    };
+    (global & global_bits == 0) & (pcid & pcid_bits == 0)
 }
 
 // The fields of the record at the front are in their ranges. Whether its kind is of 57 bits is handed in.
@@ -43,12 +50,8 @@ fn is_in_ranges_as(part: &[u8], is_wide: bool) -> bool
     if !kinds::is_span(mappings::kind(part), span) {
         return false;
     }
-    let limit = if is_wide {
-        model::WIDE_PAGE_LIMIT
-    } else {
-        model::PAGE_LIMIT
-    };
-    if !is_page(limit, span, mappings::page_as(part, is_wide)) {
+    let bits = if is_wide { 45 } else { 36 };
+    if !is_page(bits, span, mappings::page_as(part, is_wide)) {
         return false;
     }
     is_pcid_and_mark_in_range(part)

@@ -1,22 +1,21 @@
--- The shape of each kind gives the place of the span.
-use Prim.Native.Nat.{ℕ, _+_, _/_}
-use mathlib.Core.Path.{refl, ap, _∙_}
+-- The bit of each kind gives the place of the span.
+use borrow.Author.Needs.{needs}
+use Prim.Native.Nat.{_+_, _/_, _%_, _^_}
+use mathlib.Core.Path.{refl, _∙_}
 use native.Mathlib.Omega.{arith}
 use Rattle.model.specs.Layouts.{Field, body-of}
 use Rattle.laws.specs.Layouts.{mapping-kind-le}
 use Rattle.kinds.specs.Places.{place-of}
-use Rattle.kinds.specs.Laws.Places.{shapes-of-mappings}
+use Rattle.kinds.specs.Laws.Places.{tested-of-mappings}
 use Rattle.kinds.proofs.place_of_span.Statement.{statement}
 use Rattle.kinds.proofs.place_of_span.Tie as tie
 
-shape-at-requires : tie.Need-shape-at-requires
-shape-at-requires c κs = omega (arith, mapping-kind-le _ (c .pre))
+shr-result : tie.Need-shr-result
+shr-result c = omega (arith, mapping-kind-le _ (c .pre))
 
 returns : tie.Need-returns
 unfolding body-of place-of
-returns c =
-    let of-shape : ℕ → ℕ = λ x. 5 + x / 8 in
-    ap of-shape (c .shape-at .ensures) ∙ shapes-of-mappings (place-of Field.span) of-shape _ refl _ (c .before .pre)
+returns c = tested-of-mappings (place-of Field.span) (λ k. 5 + 0x1AE / 2 ^ k % 2) refl _ (c .pre)
 
 pub place-of-span-spec : {M : Type 1} → statement M
-place-of-span-spec = tie.close (tie.spec shape-at-requires (λ c. record { fits = omega (arith, c .shape-at .ensures) }) returns)
+place-of-span-spec = tie.close (tie.spec shr-result (λ c. search needs) returns)

@@ -10,19 +10,15 @@ use Rattle.model.specs.Layouts.{mapping-bodies, mapping-kind, event-kind, lengt
 use Rattle.model.specs.Mappings.{span-in-range}
 use Rattle.laws.specs.Layouts.{at-rows, of-mapping-kind, of-event-kind, below, below-at, agrees, agrees-true}
 use Rattle.laws.specs.Mappings.{span-in-range-le}
-use Rattle.kinds.specs.Places.{number-at, shape-at}
+use Rattle.kinds.specs.Places.{number-at}
 
--- they are numbers of the kinds of mappings
+-- they are numbers of the kinds of mappings: any that are worked out of a kind, and those at its place
+pub tested-of-mappings : (f g : ℕ → ℕ) → at-rows (λ k. eqb (g k) (f k)) mapping-bodies ≡ true → (k : ℕ) → mapping-kind k ≡ true → g k ≡ f k
+tested-of-mappings f g all k known = eqb-true (g k) (f k) (of-mapping-kind (λ k. eqb (g k) (f k)) all k known)
+
 pub numbers-of-mappings : (f : ℕ → ℕ) (numbers : ℕ) → at-rows (λ k. eqb (number-at numbers k) (f k)) mapping-bodies ≡ true
     → (k : ℕ) → mapping-kind k ≡ true → number-at numbers k ≡ f k
-numbers-of-mappings f numbers all k known =
-    eqb-true (number-at numbers k) (f k) (of-mapping-kind (λ k. eqb (number-at numbers k) (f k)) all k known)
-
--- what is worked out from the shapes is a number of the kinds of mappings
-pub shapes-of-mappings : (f g : ℕ → ℕ) (shapes : ℕ) → at-rows (λ k. eqb (g (shape-at shapes k)) (f k)) mapping-bodies ≡ true
-    → (k : ℕ) → mapping-kind k ≡ true → g (shape-at shapes k) ≡ f k
-shapes-of-mappings f g shapes all k known =
-    eqb-true (g (shape-at shapes k)) (f k) (of-mapping-kind (λ k. eqb (g (shape-at shapes k)) (f k)) all k known)
+numbers-of-mappings f numbers = tested-of-mappings f (number-at numbers)
 
 -- the length of a kind; 0 where it is unknown
 abbrev pub length-or-none : ℕ → ℕ

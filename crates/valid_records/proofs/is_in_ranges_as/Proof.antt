@@ -1,5 +1,6 @@
 -- A span or a page out of its range decides; else PCID and global mark do.
 use borrow.Author.Needs.{needs}
+use Prim.Native.Nat.{_-_}
 use mathlib.Core.Path.{_≡_, refl, sym, ap, _∙_}
 use mathlib.Core.Bool.{true, cond}
 use mathlib.Core.Logic.{⊎-elim}
@@ -8,7 +9,7 @@ use borrow.Author.Tests.{not-true, not-false}
 use denote.Ref.{now}
 use Rattle.model.specs.Mappings.{mapping, wide, span-in-range, page-in-range}
 use Rattle.laws.specs.Mappings.{span-in-range-le}
-use Rattle.valid_records.specs.Laws.Ranges.{page-tests, ranges-off, ranges-off-page, ranges-on}
+use Rattle.valid_records.specs.Laws.Ranges.{ranges-off, ranges-off-page, ranges-on}
 use Rattle.valid_records.proofs.is_in_ranges_as.Statement.{statement}
 use Rattle.valid_records.proofs.is_in_ranges_as.Tie as tie
 
@@ -27,22 +28,21 @@ returns c = sym (ranges-off _ (sym (said (c .before)) ∙ not-true _ (c .if1 .ta
 on : (c : tie.Else1) → span-in-range (mapping (now (c .before .before .before .before .before .args .part)) .kind) (mapping (now (c .before .before .before .before .before .args .part)) .span) ≡ true
 on c = sym (said (c .before)) ∙ not-false _ (c .if1 .left)
 
-is-page-requires : tie.Need-is-page-requires
-is-page-requires c κs = rw (c .before .before .before .before .before .span .ensures) (span-in-range-le _ _ (on (c .before .before)))
-
--- the limit of the page
-limit : (c : tie.Joined2) → c .if2 .limit ≡ cond (wide (mapping (now (c .before .before .before .before .before .before .args .part)) .kind)) 35184372088832 68719476736
-limit c =
+-- how many bits the page has
+page-bits : (c : tie.Joined2) → c .if2 .bits ≡ cond (wide (mapping (now (c .before .before .before .before .before .before .args .part)) .kind)) 57 48 - 12
+page-bits c =
     let w = c .before .before .before .before .before .before .pre .1 in
     ⊎-elim (λ j. j .1 ∙ rw (sym w ∙ j .0 .taken)) (λ j. j .1 ∙ rw (sym w ∙ j .0 .left)) (c .if2 .came)
+
+is-page-requires : tie.Need-is-page-requires
+is-page-requires c κs =
+    (⊎-elim (λ j. omega (arith, j .1)) (λ j. omega (arith, j .1)) (c .before .if2 .came), rw (c .before .before .before .before .before .span .ensures) (span-in-range-le _ _ (on (c .before .before))))
 
 -- what the test of the page says
 paged : (c : tie.After-is-page)
     → c .is-page .result
     ≡ page-in-range (mapping (now (c .before .before .before .before .before .before .before .before .args .part)) .kind) (mapping (now (c .before .before .before .before .before .before .before .before .args .part)) .span) (mapping (now (c .before .before .before .before .before .before .before .before .args .part)) .page)
-paged c =
-    rw (limit (c .before .before), c .before .page-as .ensures, c .before .before .before .before .before .before .span .ensures) at (c .is-page .ensures)
-    ∙ page-tests (wide (mapping (now (c .before .before .before .before .before .before .before .before .args .part)) .kind)) _ _
+paged c = rw (page-bits (c .before .before), c .before .page-as .ensures, c .before .before .before .before .before .before .span .ensures) at (c .is-page .ensures)
 
 returns-2 : tie.Need-returns-2
 returns-2 c = sym (ranges-off-page _ (sym (paged (c .before)) ∙ not-true _ (c .if3 .taken)))
