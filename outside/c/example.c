@@ -1,7 +1,7 @@
 /*
  * Document 01's five events as a log, which is cut into its events, one step
- * each, with a tally; a lookup, a fresh count, a conversion and a reason between
- * them.
+ * each, with a tally; a lookup, a fresh count, a conversion, a reason and two claims
+ * between them.
  *
  *     cc -I outside/c outside/c/example.c target/staticlib/libskuldrefn.a
  */
@@ -65,6 +65,15 @@ int main(void)
             int taken = why.reason == SKULDREFN_IN_SCOPE && why.answer == 0;
             printf("INVVPID: %s the record\n", taken ? "takes" : "leaves");
             wrong |= !taken;
+
+            /* Another simulator may not keep it, and an empty table is lawful. */
+            skuldrefn_judgement kept = skuldrefn_judge(
+                context, buffers[in_force], length, event, event_length, created, created_length);
+            skuldrefn_judgement none = skuldrefn_judge(
+                context, buffers[in_force], length, event, event_length, NULL, 0);
+            printf("a table that keeps it: unmatched at byte %zu\n", kept.position);
+            wrong |= kept.number != SKULDREFN_CLAIM_UNMATCHED || kept.position != 0
+                || none.number != SKULDREFN_CLAIM_ACCEPTED;
         }
 
         skuldrefn_step_result step = skuldrefn_step_tally(

@@ -116,7 +116,8 @@ enum {
  * The answers. The lowest number that applies is given, and only then; but 13 goes
  * after 4 and before 5. skuldrefn_step gives 0 to 13, skuldrefn_plain_step 0 to 12,
  * skuldrefn_count 0, 2, 3 or 13, a lookup 0 to 3, skuldrefn_widen 0, 2, 3 or 12. A
- * refusal that skuldrefn_explain names is 1 or 3 to 11.
+ * refusal that skuldrefn_explain names is 1 or 3 to 11, one that skuldrefn_judge
+ * names 1 to 12.
  */
 enum {
     SKULDREFN_ACCEPTED = 0,      /* none of the others applies */
@@ -482,6 +483,44 @@ typedef struct {
 skuldrefn_widened skuldrefn_widen(
     const uint8_t *table, size_t table_length,
     uint8_t *new_table, size_t new_length);
+
+/* What a claimed table is judged as: accepted, or the first ground against it. */
+enum {
+    SKULDREFN_CLAIM_ACCEPTED = 0,  /* an in-order part of what the step leaves */
+    SKULDREFN_CLAIM_REFUSED = 1,   /* the step is refused */
+    SKULDREFN_CLAIM_MALFORMED = 2, /* the claim is longer than 47,104 bytes, or not
+                                      whole, valid records of the context's
+                                      linear width */
+    SKULDREFN_CLAIM_UNMATCHED = 3  /* a claimed record cannot be matched */
+};
+
+typedef struct {
+    uint64_t number;   /* SKULDREFN_CLAIM_.. */
+    uint64_t answer;   /* of a refused step, 1 to 12; else 0 */
+    uint64_t rule;     /* of a refused step; else 0 */
+    size_t position;   /* the byte, from 0, at which the first claimed record starts
+                          that cannot be matched; else 0 */
+} skuldrefn_judgement;
+
+/*
+ * Judges another simulator: whether an event may leave the claimed table. It may
+ * drop more than it must, so every in-order part of what the step leaves is
+ * accepted, none and all of it too. Each claimed record takes the earliest equal
+ * record behind the last one taken.
+ *
+ * table, table_length: the table before the event.
+ * event, event_length: the bytes of the event.
+ * claim, claim_length: the claimed table after it.
+ *
+ * The step is judged as with a new buffer of 47,104 bytes; it is refused with 2 or 3
+ * if the table before the event is not valid. Where the step is refused the claim is
+ * not looked at. All three are only read, and no buffer is needed.
+ */
+skuldrefn_judgement skuldrefn_judge(
+    skuldrefn_context context,
+    const uint8_t *table, size_t table_length,
+    const uint8_t *event, size_t event_length,
+    const uint8_t *claim, size_t claim_length);
 
 #ifdef __cplusplus
 }

@@ -11,7 +11,7 @@ use Rattle.model.specs.declared.Address.the-variants.{Linear}
 use Rattle.logs.specs.declared.Replayed.{Replayed}
 use Rattle.flat_contexts.specs.declared.FlatContext.{FlatContext}
 use Rattle.flat_contexts.specs.Contexts.{is-known, flatten}
-use Rattle.skuldrefn.specs.Flat.{flat-result, flat-step, flat-written, flat-lookup, flat-explanation, fresh, flat-replayed}
+use Rattle.skuldrefn.specs.Flat.{flat-result, flat-step, flat-written, flat-lookup, flat-explanation, flat-judgement, fresh, flat-replayed}
 
 -- a context in root, the same as numbers, and numbers that stand for nothing
 context : Context
@@ -35,13 +35,14 @@ record Rows : Type 0 where
   unwritten : flat-written (numbers 3) [] (25 ∷ []) (7 ∷ []) ≡ 7 ∷ []
   nowhere : flat-lookup (numbers 3) (Linear 0) [] 0 ≡ record { answer = 1; start = 0; length = 0 }
   unexplained : flat-explanation (numbers 3) [] [] ≡ record { reason = 1; answer = 1; rule = 0 }
+  unjudged : flat-judgement (numbers 3) [] [] [] ≡ record { number = 1; answer = 1; rule = 0; position = 0 }
   first : flat-replayed (replay true) ≡ record { context = numbers 1; length = 21; first = 1; count = 22 }
   second : flat-replayed (replay false) ≡ record { context = numbers 1; length = 21; first = 0; count = 22 }
   begun : flatten (fresh 11 12 15)
       ≡ record { capability = 11; width = 12; «linear_width» = 15; pcid = 0; cpl = 0; place = 0; vpid = 0; ept = 0; ep4ta = 0 }
 
 cards-hold : Rows
-unfolding context numbers told replay is-known flatten flat-step flat-written flat-lookup flat-explanation flat-replayed
+unfolding context numbers told replay is-known flatten flat-step flat-written flat-lookup flat-explanation flat-judgement flat-replayed
 cards-hold =
     record {
       accepted = refl;
@@ -50,6 +51,7 @@ cards-hold =
       unwritten = refl;
       nowhere = refl;
       unexplained = refl;
+      unjudged = refl;
       first = refl;
       second = refl;
       begun = refl;

@@ -14,6 +14,9 @@ use Rattle.model.specs.Lookups.{lookup-answer, lookup, lookup-start}
 use Rattle.model.specs.Reasons.{explanation, explanation-number, explanation-answer, explanation-rule}
 use Rattle.tables.specs.Counts.{table-counts}
 use Rattle.counted_steps.specs.Steps.{counted-stepped, counted-pcids, counted-written}
+use Rattle.claims.specs.declared.Values as Claims
+use Rattle.claims.specs.declared.Judgement.the-variants.{Refused}
+use Rattle.claims.specs.Claims.{judgement, judgement-values}
 use Rattle.flat_contexts.specs.declared.FlatContext.{FlatContext}
 use Rattle.flat_contexts.specs.Contexts.{is-known, unflatten, flatten}
 use Rattle.skuldrefn.specs.declared.FlatStep.{FlatStep}
@@ -86,6 +89,10 @@ flat-explanation c r e =
       rule = explanation-rule (explanation (unflatten c) r e);
     })
     (record { reason = 1; answer = 1; rule = 0 })
+
+-- a judgement: a refusal with 1 where a number stands for nothing
+unfoldable pub flat-judgement : FlatContext → List ℕ → List ℕ → List ℕ → Claims.Values
+flat-judgement c t e claim = judgement-values (cond (is-known c) (judgement (unflatten c) t e claim) (Refused 1 0))
 
 -- the context of a capability, N and a linear width after a reset
 abbrev pub fresh : ℕ → ℕ → ℕ → Context

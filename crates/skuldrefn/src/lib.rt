@@ -1,5 +1,6 @@
 // The model for programs in C and Rust: functions on numbers, byte slices and flat structs. A context
 // is handed in as numbers; a place or EPT number that stands for nothing is answered 1.
+use claims::Judgement;
 use flat_contexts::FlatContext;
 use model::Address;
 use model::Context;
@@ -12,7 +13,7 @@ ghost use lib.ListN.{length};
 ghost use Rattle.widening.specs.Widening.{widening, widening-written};
 ghost use Rattle.logs.specs.Logs.{told-length};
 ghost use Rattle.tables.specs.Counts.{table-pcid-counts};
-ghost use Rattle.skuldrefn.specs.Flat.{refused, flat-result, flat-step, flat-written, flat-counted-step, flat-counted-pcids, flat-counted-written, flat-counts, flat-lookup, flat-explanation, fresh, FlatReplays};
+ghost use Rattle.skuldrefn.specs.Flat.{refused, flat-result, flat-step, flat-written, flat-counted-step, flat-counted-pcids, flat-counted-written, flat-counts, flat-lookup, flat-explanation, flat-judgement, fresh, FlatReplays};
 ghost use mathlib.Core.Bool.{cond};
 
 // What a step reports.
@@ -245,6 +246,24 @@ pub extern "C" fn skuldrefn_widen(table: &[u8], new: &mut [u8]) -> Widened
     ensures { λ _. ⌜ now (new .exit) ≡ widening-written (now (table .entry)) (now (new .entry)) ⌝ }
 {
     widening::widen(table, new)
+}
+
+// Judges a claimed table after an event: 0, it is an in-order part of what the step leaves; 1, the step is refused, with
+// its answer and the rule of the EPTP that goes with it; 2, the claim is malformed; 3, the record at a byte position of
+// it cannot be matched.
+#[no_mangle]
+pub extern "C" fn skuldrefn_judge(
+    context: FlatContext,
+    table: &[u8],
+    event: &[u8],
+    claim: &[u8],
+) -> claims::Values
+    ensures { λ r. ⌜ r ≡ flat-judgement context (now (table .entry)) (now (event .entry)) (now (claim .entry)) ⌝ }
+{
+    if !flat_contexts::is_known(context) {
+        return claims::values_of(Judgement::Refused(1, 0));
+    }
+    claims::values_of(claims::judge(flat_contexts::context_of(context), table, event, claim))
 }
 
 // How many bytes the first event of a log has by its kind, more than the log where the record is cut; 0

@@ -7,8 +7,8 @@ mod tally;
 
 use model::{Address, Context, Place, Reason};
 pub use skuldrefn::{
-    explain_flat, plain_step_flat, replay_flat, FlatContext, FlatReason, FlatReplayed, FlatStep,
-    Part,
+    explain_flat, judge_flat, plain_step_flat, replay_flat, FlatContext, FlatJudgement, FlatReason,
+    FlatReplayed, FlatStep, Part,
 };
 use std::ops::Range;
 pub use tally::{count, count_lent, counted_step_lent, step_flat};
@@ -109,6 +109,18 @@ pub fn widen(table: &[u8], new: &mut [u8]) -> model::Widened {
         answer: widened.answer,
         length: widened.length,
     }
+}
+
+/// A flat judgement as the model's; None for numbers that stand for none.
+pub fn judgement(flat: &FlatJudgement) -> Option<model::Judgement> {
+    Some(match flat.judgement()? {
+        skuldrefn::Judgement::Accepted => model::Judgement::Accepted,
+        skuldrefn::Judgement::Refused { answer, rule } => {
+            model::Judgement::Refused { answer, rule }
+        }
+        skuldrefn::Judgement::Malformed => model::Judgement::Malformed,
+        skuldrefn::Judgement::Unmatched { position } => model::Judgement::Unmatched { position },
+    })
 }
 
 /// The rows of a replay as the model's lines.

@@ -3,6 +3,7 @@
 use common::{KINDS, LINEAR_WIDTHS};
 use model::{LinearWidth, Reason};
 use skuldrefn::raw::{Counted, CountedStep};
+use skuldrefn::FlatJudgement;
 use std::env::temp_dir;
 use std::fs;
 use std::mem::{offset_of, size_of};
@@ -18,6 +19,7 @@ records of PCID 1: 1
 at 57 bits: 18 bytes
 4 0 0 17
 INVVPID: takes the record
+a table that keeps it: unmatched at byte 0
 5 0 1 0
 ";
 
@@ -165,6 +167,75 @@ fn a_tally_in_c() {
         size_of::<Counted>(),
     ];
     assert_eq!(sizes, due.map(|size| size.to_string()).join(" "));
+}
+
+/// Judges claims after a creation and prints the four numbers of each; then the
+/// sizes.
+const CLAIMS: &str = r#"
+#include "skuldrefn.h"
+#include <stdio.h>
+
+static const uint8_t records[34] = {1, 0, 0, 0, 0, 0, 2, [17] = 1, 0, 0, 0, 0, 1, 2};
+static const uint8_t vmxoff[1] = {23};
+
+int main(void)
+{
+    skuldrefn_context context = {
+        SKULDREFN_PROGRAM_CAPABILITY, SKULDREFN_PROGRAM_WIDTH, SKULDREFN_PROGRAM_LINEAR_WIDTH,
+        0, 0, SKULDREFN_OUTSIDE, 0, 0, 0};
+    const uint8_t *first = records, *second = records + 17;
+    const struct { const uint8_t *table, *event, *claim; size_t lengths[3]; } cases[6] = {
+        {first, second, records, {17, 17, 34}},
+        {first, second, second, {17, 17, 17}},
+        {second, first, records, {17, 17, 34}},
+        {NULL, second, records, {0, 17, 34}},
+        {first, second, records, {17, 17, 33}},
+        {first, vmxoff, records, {17, 1, 33}},
+    };
+    for (int i = 0; i < 6; i++) {
+        skuldrefn_judgement judged = skuldrefn_judge(
+            context, cases[i].table, cases[i].lengths[0], cases[i].event, cases[i].lengths[1],
+            cases[i].claim, cases[i].lengths[2]);
+        printf("%d %d %d %d\n", (int)judged.number, (int)judged.answer, (int)judged.rule,
+            (int)judged.position);
+    }
+    printf("%zu %zu\n", sizeof(skuldrefn_judgement), offsetof(skuldrefn_judgement, position));
+    return 0;
+}
+"#;
+
+#[test]
+fn claims_in_c() {
+    let source = Temporary::new("claims.c");
+    fs::write(&source.0, CLAIMS).expect("a file");
+    let Some(printed) = printed("claims", &source.0) else {
+        return;
+    };
+    let due = [
+        // Both records, and the created one alone.
+        "0 0 0 0", "0 0 0 0",
+        // In the other order, and with one that was not there.
+        "3 0 0 17", "3 0 0 0",
+        // Cut; and VMXOFF outside VMX, where the claim is not looked at.
+        "2 0 0 0", "1 5 0 0", "32 24",
+    ];
+    assert_eq!(printed.lines().collect::<Vec<_>>(), due);
+    let size = size_of::<FlatJudgement>();
+    assert_eq!((size, offset_of!(FlatJudgement, position)), (32, 24));
+}
+
+#[test]
+fn the_header_names_every_judgement() {
+    let header = header();
+    let names = ["ACCEPTED", "REFUSED", "MALFORMED", "UNMATCHED"];
+    for (number, name) in names.into_iter().enumerate() {
+        let line = format!("    SKULDREFN_CLAIM_{name} = {number}");
+        let found = header.lines().find_map(|own| own.strip_prefix(&line));
+        assert!(
+            found.is_some_and(|rest| rest.starts_with([',', ' '])),
+            "{line}"
+        );
+    }
 }
 
 fn header() -> String {

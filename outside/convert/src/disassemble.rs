@@ -53,6 +53,15 @@ pub fn fault(linear_width: u64, bytes: &[u8]) -> Option<String> {
     Some(format!("{}, but {reason}", form.name))
 }
 
+/// The line of one whole, valid event of a linear width; None of other bytes.
+pub fn line(linear_width: u64, event: &[u8]) -> Option<String> {
+    let form = Form::of_kind(linear_width, *event.first()?)?;
+    if event.len() != form.length() {
+        return None;
+    }
+    disassemble_event(linear_width, form, event).ok()
+}
+
 /// A kind that is unknown at a linear width: of the other, or of neither.
 fn unknown(kind: u8) -> String {
     let of = |width| Form::of_kind(width, kind).is_some();

@@ -46,4 +46,4 @@ mod disassemble;
 pub mod forms;
 
 pub use assemble::{assemble, Error};
-pub use disassemble::{disassemble, fault};
+pub use disassemble::{disassemble, fault, line};

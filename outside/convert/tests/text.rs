@@ -395,3 +395,21 @@ fn holds_more(event: &[u8]) -> bool {
         _ => false,
     }
 }
+
+/// One whole, valid event has a line; nothing else has.
+#[test]
+fn the_line_of_one_event() {
+    let created = [
+        1, 5, 0, 1, 0, 0, 0, 0x45, 0x23, 1, 0, 0, 0xDE, 0xBC, 0x0A, 0, 0,
+    ];
+    let due = "linear vpid=0x5 pcid=0x1 global=0x0 span=0x0 page=0x12345 frame=0xabcde";
+    assert_eq!(convert::line(48, &created).as_deref(), Some(due));
+    assert_eq!(convert::line(57, &created), None);
+    assert_eq!(convert::line(48, &created[..16]), None);
+    assert_eq!(convert::line(48, &[&created[..], &[0]].concat()), None);
+    let mut global = created;
+    global[5] = 2;
+    assert_eq!(convert::line(48, &global), None);
+    assert_eq!(convert::line(48, &[]), None);
+    assert_eq!(convert::line(48, &[0]), None);
+}

@@ -1,5 +1,6 @@
 //! Cases: what is compared, as text that can be replayed.
 
+use crate::claim::ClaimCase;
 use crate::count::CountCase;
 use crate::explain::ExplainCase;
 use crate::lookup::LookupCase;
@@ -19,6 +20,7 @@ pub enum Case {
     Count(CountCase),
     Lookup(LookupCase),
     Explain(ExplainCase),
+    Claim(ClaimCase),
     Run(RunCase),
     Replay(ReplayCase),
     Widen(WidenCase),
@@ -39,6 +41,7 @@ impl Case {
             Case::Count(case) => case.check(reached),
             Case::Lookup(case) => case.check(reached),
             Case::Explain(case) => case.check(reached),
+            Case::Claim(case) => case.check(reached),
             Case::Run(case) => case.check(reached),
             Case::Replay(case) => case.check(reached),
             Case::Widen(case) => case.check(reached),
@@ -63,6 +66,7 @@ impl Case {
             Case::Count(case) => case.smaller().into_iter().map(Case::Count).collect(),
             Case::Lookup(case) => case.smaller().into_iter().map(Case::Lookup).collect(),
             Case::Explain(case) => case.smaller().into_iter().map(Case::Explain).collect(),
+            Case::Claim(case) => case.smaller().into_iter().map(Case::Claim).collect(),
             Case::Run(case) => case.smaller().into_iter().map(Case::Run).collect(),
             Case::Replay(case) => case.smaller().into_iter().map(Case::Replay).collect(),
             Case::Widen(case) => case.smaller().into_iter().map(Case::Widen).collect(),
@@ -77,6 +81,7 @@ impl fmt::Display for Case {
             Case::Count(case) => case.fmt(f),
             Case::Lookup(case) => case.fmt(f),
             Case::Explain(case) => case.fmt(f),
+            Case::Claim(case) => case.fmt(f),
             Case::Run(case) => case.fmt(f),
             Case::Replay(case) => case.fmt(f),
             Case::Widen(case) => case.fmt(f),

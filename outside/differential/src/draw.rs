@@ -1,7 +1,9 @@
 //! Random cases.
 
 use crate::buffer::Buffer;
+use crate::claim::ClaimCase;
 use crate::count::CountCase;
+use crate::expected;
 use crate::explain::ExplainCase;
 use crate::lookup::LookupCase;
 use crate::replay::{starts, ReplayCase};
@@ -10,6 +12,7 @@ use crate::step::StepCase;
 use crate::widen::WidenCase;
 use bridge::FlatContext;
 use common::{LINEAR_WIDTHS, LOG_LIMIT, PCIDS, ROW, TABLE_LIMIT};
+use common::{PROGRAM_CAPABILITY, PROGRAM_WIDTH};
 use generate::{start, Rng, BAD_LINEAR_WIDTHS};
 use model::{Context, Place};
 
@@ -119,6 +122,39 @@ pub fn explain(rng: &mut Rng) -> ExplainCase {
         record: case.record,
         event: case.event,
     }
+}
+
+/// A claimed table after a step, which is aimed at any answer that it has with a
+/// new buffer of 47,104 bytes.
+pub fn claim(rng: &mut Rng) -> ClaimCase {
+    let (context, table, event) = if rng.one_in(32) {
+        crowded(rng)
+    } else {
+        let case = generate::case(rng);
+        (case.context, case.table, case.event)
+    };
+    let flat = any_flat(rng, &context);
+    let left = expected::left(&flat, &table, &event);
+    ClaimCase {
+        context: flat,
+        claim: generate::claim(rng, &context, &table, &left),
+        table,
+        event,
+    }
+}
+
+/// A table so full that a creation has just room or just none, and an event that
+/// should be accepted but for that.
+fn crowded(rng: &mut Rng) -> (Context, Vec<u8>, Vec<u8>) {
+    let context = Context {
+        capability: PROGRAM_CAPABILITY,
+        width: PROGRAM_WIDTH,
+        ..generate::context(rng)
+    };
+    let free = rng.pick(&[0, 1, 15, 16, 17, 18, 20, 21, 22, 23]);
+    let table = generate::full_table(rng, &context, TABLE_LIMIT - free);
+    let (event, _) = generate::fitting(rng, &context);
+    (context, table, event)
 }
 
 /// A run of so many events, with addresses to look up at some of them.

@@ -4,7 +4,7 @@ use bridge::{FlatContext, FlatReason, FlatReplayed, FlatStep, Part};
 use common::{write_row, ROW, TABLE_LIMIT};
 use model::event::Event;
 use model::reason::has_scope;
-use model::{Address, Context, LinearWidth, Reason, Step, Tally, PCIDS};
+use model::{Address, Context, Judgement, LinearWidth, Reason, Step, Tally, PCIDS};
 use std::mem::swap;
 use std::ops::Range;
 
@@ -92,6 +92,26 @@ pub fn explain(context: &FlatContext, record: &[u8], event: &[u8]) -> FlatReason
         Some(known) => model::explain(&known, record, event),
     };
     bridge::flat_reason(reason)
+}
+
+/// A judgement. A place or EPT number that stands for nothing is refused with 1.
+pub fn judge(context: &FlatContext, table: &[u8], event: &[u8], claim: &[u8]) -> Judgement {
+    match bridge::context(context) {
+        None => Judgement::Refused { answer: 1, rule: 0 },
+        Some(known) => model::judge_claim(&known, table, event, claim),
+    }
+}
+
+/// What a step with a new buffer of 47,104 bytes leaves; the table before where it
+/// is refused.
+pub fn left(context: &FlatContext, table: &[u8], event: &[u8]) -> Vec<u8> {
+    let mut new = vec![0; TABLE_LIMIT];
+    let step = plain_step(context, table, event, &mut new);
+    if step.answer != 0 {
+        return table.to_vec();
+    }
+    new.truncate(step.length);
+    new
 }
 
 /// A whole log: the model's steps, as long as there is room for a row. With two

@@ -1,13 +1,14 @@
 //! The proved library against the independent model.
 //!
 //! A case is the inputs of a step, of a fresh count, of the lookups of one
-//! address, of an explanation, of a run, of a replay or of a conversion. It is
+//! address, of an explanation, of a judgement, of a run, of a replay or of a
+//! conversion. It is
 //! compared whole: answers, contexts, numbers, each count of a tally, and each
 //! byte of each buffer that was lent. A case in
 //! which the two differ is made smaller, if it can be, and printed as text that
 //! `fuzz --case` reads.
 //!
-//! * [`case`], [`step`], [`count`], [`lookup`], [`explain`], [`run`], [`replay`],
+//! * [`case`], [`step`], [`count`], [`lookup`], [`explain`], [`claim`], [`run`], [`replay`],
 //!   [`widen`]: the cases.
 //! * [`expected`]: what the model says, in the library's form.
 //! * [`draw`], [`sweep`]: random cases, and all those near some bounds.
@@ -16,6 +17,7 @@
 
 pub mod buffer;
 pub mod case;
+pub mod claim;
 pub mod count;
 mod difference;
 pub mod draw;

@@ -2,6 +2,7 @@
 
 use crate::buffer::Buffer;
 use crate::case::Case;
+use crate::claim::ClaimCase;
 use crate::count::CountCase;
 use crate::explain::ExplainCase;
 use crate::lookup::LookupCase;
@@ -25,6 +26,7 @@ pub fn parse(text: &str) -> Result<Case, String> {
         "count" => lines.count().map(Case::Count),
         "lookup" => lines.lookup().map(Case::Lookup),
         "explain" => lines.explain().map(Case::Explain),
+        "claim" => lines.claim().map(Case::Claim),
         "run" => lines.run().map(Case::Run),
         "replay" => lines.replay().map(Case::Replay),
         "widen" => lines.widen().map(Case::Widen),
@@ -196,6 +198,15 @@ impl<'a> Lines<'a> {
             context: self.context()?,
             record: self.bytes("record")?,
             event: self.bytes("event")?,
+        })
+    }
+
+    fn claim(&mut self) -> Result<ClaimCase, String> {
+        Ok(ClaimCase {
+            context: self.context()?,
+            table: self.bytes("table")?,
+            event: self.bytes("event")?,
+            claim: self.bytes("claim")?,
         })
     }
 

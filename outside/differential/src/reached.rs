@@ -37,6 +37,14 @@ pub struct Counts {
     pub reasons: [u64; 11],
     /// Explanations by the step's answer.
     pub refusals: [u64; 13],
+    /// Claims that were accepted, refused, malformed and unmatched.
+    pub claims: [u64; 4],
+    /// Claims by the step's answer.
+    pub claim_answers: [u64; 13],
+    /// Claims by the step's EPTP rule.
+    pub claim_rules: [u64; 6],
+    /// Claims of which not the first record is the first unmatched one.
+    pub part_matched: u64,
     /// Steps, single and plain or in runs, by their EPTP rule.
     pub rules: [u64; 6],
     /// Explanations by the step's EPTP rule.
@@ -86,7 +94,7 @@ impl Counts {
     }
 
     fn calls(&self) -> u64 {
-        let all: [&[u64]; 7] = [
+        let all: [&[u64]; 8] = [
             &self.steps,
             &self.counted,
             &self.run_steps,
@@ -94,6 +102,7 @@ impl Counts {
             &self.rows,
             &self.lookups,
             &self.reasons,
+            &self.claims,
         ];
         all.into_iter().flatten().sum()
     }
@@ -103,7 +112,7 @@ impl fmt::Display for Counts {
     fn fmt(&self, f: &mut fmt::Formatter) -> fmt::Result {
         writeln!(
             f,
-            "{:<8}{:>12}{:>12}{:>12}{:>12}{:>12}{:>12}{:>12}",
+            "{:<8}{:>12}{:>12}{:>12}{:>12}{:>12}{:>12}{:>12}{:>12}",
             "answer",
             "plain steps",
             "counted",
@@ -111,17 +120,19 @@ impl fmt::Display for Counts {
             "counts",
             "in replays",
             "in reasons",
+            "of claims",
             "lookups"
         )?;
         for answer in 0..14 {
             write!(f, "{answer:<8}")?;
-            let columns: [&[u64]; 7] = [
+            let columns: [&[u64]; 8] = [
                 &self.steps,
                 &self.counted,
                 &self.run_steps,
                 &self.counts,
                 &self.rows,
                 &self.refusals,
+                &self.claim_answers,
                 &self.lookups,
             ];
             for column in columns {
@@ -137,9 +148,17 @@ impl fmt::Display for Counts {
         writeln!(f, "reasons: {}", numbered(&self.reasons))?;
         writeln!(
             f,
-            "EPTP rules: {}; in reasons: {}",
+            "EPTP rules: {}; in reasons: {}; of claims: {}",
             numbered(&self.rules),
-            numbered(&self.reason_rules)
+            numbered(&self.reason_rules),
+            numbered(&self.claim_rules)
+        )?;
+        let [accepted, refused, malformed, unmatched] = self.claims;
+        writeln!(
+            f,
+            "claims: {accepted} accepted, {refused} refused, {malformed} malformed, {unmatched} \
+             unmatched, {} of these behind a matched record",
+            self.part_matched
         )?;
         writeln!(
             f,

@@ -1,7 +1,9 @@
 //! Cases near the bounds, all of them for one context and table.
 
+use crate::claim::ClaimCase;
 use crate::count::CountCase;
-use crate::draw::{buffer, flat, ODD_NUMBERS};
+use crate::draw::{self, buffer, flat, ODD_NUMBERS};
+use crate::expected;
 use crate::explain::ExplainCase;
 use crate::lookup::LookupCase;
 use crate::replay::ReplayCase;
@@ -301,6 +303,68 @@ pub fn near_explains(rng: &mut Rng) -> Vec<ExplainCase> {
 pub fn edge_explains(rng: &mut Rng) -> Vec<ExplainCase> {
     let steps = edge_events_of(rng, 1);
     steps.into_iter().map(ExplainCase::from).collect()
+}
+
+/// An event on a small table, and every claim one change away from what it leaves:
+/// each record dropped, doubled in its place or at the end, or swapped with the
+/// next; each bit altered; cut after each byte; a byte of rubbish at each place.
+pub fn near_claims(rng: &mut Rng) -> Vec<ClaimCase> {
+    let context = Context {
+        capability: PROGRAM_CAPABILITY,
+        width: PROGRAM_WIDTH,
+        ..generate::context(rng)
+    };
+    let count = 1 + rng.below(5);
+    let table = generate::table(rng, &context, count);
+    let (event, _) = generate::fitting(rng, &context);
+    let width = LinearWidth::of(context.linear_width);
+    let context = flat(rng, &context);
+    let left = expected::left(&context, &table, &event);
+    let records = model::mapping::records(width, &left).unwrap_or_default();
+    let records: Vec<&[u8]> = records.into_iter().map(|(at, _)| &left[at]).collect();
+    let mut claims = vec![left.clone(), table.clone()];
+    for (number, record) in records.iter().enumerate() {
+        let (before, behind) = (&records[..number], &records[number + 1..]);
+        claims.push([before, behind].concat().concat());
+        claims.push([before, &[record, record], behind].concat().concat());
+        claims.push([before, &[record], behind, &[record]].concat().concat());
+        if let [next, rest @ ..] = behind {
+            claims.push([before, &[next, record], rest].concat().concat());
+        }
+    }
+    for at in 0..left.len() {
+        claims.push(left[..at].to_vec());
+        claims.push([&left[..at], &[rng.number() as u8], &left[at..]].concat());
+        for bit in 0..8 {
+            let mut claim = left.clone();
+            claim[at] ^= 1 << bit;
+            claims.push(claim);
+        }
+    }
+    let with = |claim| ClaimCase {
+        context,
+        table: table.clone(),
+        event: event.clone(),
+        claim,
+    };
+    claims.into_iter().map(with).collect()
+}
+
+/// One claim, with every context and event one field away from its own.
+pub fn near_judgements(rng: &mut Rng) -> Vec<ClaimCase> {
+    let case = draw::claim(rng);
+    let own = bridge::context(&case.context);
+    let own = own.unwrap_or_else(|| generate::context(rng));
+    let mut cases = Vec::new();
+    for context in contexts_near(rng, &own) {
+        let case = case.clone();
+        cases.push(ClaimCase { context, ..case });
+    }
+    for event in generate::near_events(&case.event) {
+        let case = case.clone();
+        cases.push(ClaimCase { event, ..case });
+    }
+    cases
 }
 
 /// Lookups of both sorts at the ends of each record and of all addresses.

@@ -77,6 +77,18 @@ pub fn explains(rng: &mut Rng, reached: &mut Reached) -> Result<(), Failure> {
     Ok(())
 }
 
+/// Claimed tables, random and one change away from a lawful one.
+pub fn claims(rng: &mut Rng, reached: &mut Reached) -> Result<(), Failure> {
+    for _ in 0..100 {
+        Case::Claim(draw::claim(rng)).compare(reached)?;
+    }
+    all(sweep::near_claims(rng), Case::Claim, reached)?;
+    if rng.one_in(4) {
+        all(sweep::near_judgements(rng), Case::Claim, reached)?;
+    }
+    Ok(())
+}
+
 /// A run of some hundreds of events.
 pub fn runs(rng: &mut Rng, reached: &mut Reached) -> Result<(), Failure> {
     let count = 100 + rng.below(400);
@@ -110,8 +122,9 @@ fn filling(rng: &mut Rng, reached: &mut Reached) -> Result<(), Failure> {
 }
 
 /// The work of one round.
-const ROUND: [Work; 11] = [
-    steps, near_steps, tallies, lookups, steps, runs, replays, steps, lookups, explains, widenings,
+const ROUND: [Work; 12] = [
+    steps, near_steps, tallies, lookups, claims, steps, runs, replays, steps, lookups, explains,
+    widenings,
 ];
 
 /// Once in so many rounds a table is filled.

@@ -159,6 +159,22 @@ fn explanations_of_whole_tables() {
     }
 }
 
+/// Every judgement, and every refusal with every rule of an EPTP.
+#[test]
+fn claims_of_every_judgement() {
+    let reached = compare(120, work::claims);
+    for (_, counts) in reached.both() {
+        assert!(counts.claims.iter().all(|count| *count > 1_000));
+        assert!(counts.part_matched > 1_000);
+        for (answer, count) in counts.claim_answers.iter().enumerate() {
+            assert!(*count > 20, "answer {answer}: {count}");
+        }
+        for (rule, count) in counts.claim_rules.iter().enumerate() {
+            assert!(*count > 5, "rule {rule}: {count}");
+        }
+    }
+}
+
 #[test]
 fn long_runs_by_the_book() {
     let reached = compare(60, work::runs);

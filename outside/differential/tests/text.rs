@@ -13,6 +13,7 @@ fn cases() -> Vec<Case> {
         cases.push(Case::Count(draw::count(&mut rng)));
         cases.push(Case::Lookup(draw::lookup(&mut rng)));
         cases.push(Case::Explain(draw::explain(&mut rng)));
+        cases.push(Case::Claim(draw::claim(&mut rng)));
         cases.push(Case::Run(draw::run(&mut rng, 30)));
         cases.push(Case::Replay(draw::replay(&mut rng, 300)));
         cases.push(Case::Widen(draw::widen(&mut rng)));
@@ -100,7 +101,7 @@ fn fuzz(words: &[&str], input: &str) -> Output {
 
 #[test]
 fn the_program_compares_a_case_again() {
-    for case in cases().iter().take(14) {
+    for case in cases().iter().take(16) {
         let output = fuzz(&["--case", "-"], &case.to_string());
         assert_eq!(output.status.code(), Some(0));
         assert_eq!(output.stdout, b"no difference\n");

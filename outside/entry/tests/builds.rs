@@ -115,6 +115,7 @@ fn tools_that_are_missing() {
         ("disassemble three.log", "cargo"),
         ("tally three.log", "rt"),
         ("widen a.table", "rt"),
+        ("judge three.log", "rt"),
         ("test", "rt"),
     ] {
         let run = checkout.sh(&format!("PATH=$CHECKOUT/few ./skuldrefn {command}"));

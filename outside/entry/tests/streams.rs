@@ -103,6 +103,8 @@ fn closed_descriptors() {
         "disassemble",
         "tally",
         "widen",
+        "judge",
+        "judge --make",
     ] {
         let run = checkout.sh(&format!("./skuldrefn {command} <&-"));
         assert_eq!((run.status, &run.said[..]), (2, closed), "{command}");
@@ -117,6 +119,7 @@ fn closed_descriptors() {
         "assemble",
         "tally three.log",
         "widen a.table",
+        "judge three.log",
         "help",
         "library",
         "fuzz",
@@ -167,6 +170,8 @@ fn the_other_programs() {
         "tally three.log",
         "tally --every 1 three.log",
         "widen a.table",
+        "judge three.log",
+        "judge --make three.log",
         "help",
         "help bench",
         "library",

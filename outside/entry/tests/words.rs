@@ -2,12 +2,13 @@
 
 use entry::{Checkout, THREE};
 
-const COMMANDS: [&str; 10] = [
+const COMMANDS: [&str; 11] = [
     "replay",
     "assemble",
     "disassemble",
     "tally",
     "widen",
+    "judge",
     "library",
     "test",
     "fuzz",
@@ -66,6 +67,21 @@ fn words_that_are_not_taken() {
         "widen a.table a.table",
         "widen /",
         "widen ''",
+        "judge nofile.trace",
+        "judge --all",
+        "judge --linear-width 56",
+        "judge --linear-width three.log",
+        "judge --linear-width 57 --linear-width 57",
+        "judge --make --make",
+        "judge --make nofile.log",
+        "judge --make --linear-width",
+        "judge three.log --make",
+        "judge three.log --linear-width 57",
+        "judge three.log three.log",
+        "judge --make three.log --help",
+        "judge --make /",
+        "judge /",
+        "judge ''",
         "library x",
         "test quickly",
         "fuzz many",
@@ -133,6 +149,8 @@ fn options_after_the_file() {
             "disassemble three.log --every 1",
             "disassemble takes one file; '--every' is one too many",
         ),
+        ("judge three.log --make", "options go before the file"),
+        ("judge - --linear-width 57", "options go before the file"),
     ] {
         let run = checkout.sh(&format!("./skuldrefn {words}"));
         let command = words.split(' ').next().expect("a command");
@@ -148,6 +166,8 @@ fn help_after_options() {
         ("tally", "--every 1"),
         ("tally", "--linear-width 57 --every 1"),
         ("disassemble", "--linear-width 57"),
+        ("judge", "--make"),
+        ("judge", "--linear-width 57 --make"),
     ] {
         let due = checkout.sh(&format!("./skuldrefn help {command}"));
         for word in ["-h", "--help"] {

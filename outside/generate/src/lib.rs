@@ -13,6 +13,7 @@
 //! * [`Rng`]: the generator of numbers.
 //! * [`case`], [`query`], [`explain`], [`widening`]: inputs of one step, of one
 //!   lookup, of one explanation and of one conversion.
+//! * [`claim()`]: a claimed table after a step.
 //! * [`start`], [`events`], [`log`], [`filling_log`]: whole runs and logs.
 //! * [`context`], [`table`], [`event`], [`address`] and so on: the parts.
 //! * [`tally()`], [`near_tallies`]: the tallies to hand in with a table.
@@ -22,6 +23,7 @@
 mod aim;
 mod bounds;
 mod case;
+mod claim;
 mod context;
 mod damage;
 mod event;
@@ -38,6 +40,7 @@ mod widening;
 
 pub use bounds::near_events;
 pub use case::{case, Case};
+pub use claim::claim;
 pub use common::{hex, kinds, KINDS};
 pub use context::{capability, context, near_contexts, BAD_LINEAR_WIDTHS};
 pub use event::{event, event_of_kind};

@@ -507,6 +507,11 @@ fn the_same_seed_gives_the_same() {
         }
         let (ours, theirs) = (widening(&mut one), widening(&mut two));
         assert_eq!(format!("{ours}"), format!("{theirs}"));
+        let claimed = |rng: &mut Rng| {
+            let case = case(rng);
+            generate::claim(rng, &case.context, &case.table, &case.table)
+        };
+        assert_eq!(claimed(&mut one), claimed(&mut two));
     }
     assert_ne!(Rng::new(0).number(), Rng::new(1).number());
 }

@@ -15,12 +15,14 @@
 //! * [`step()`], [`lookup()`], [`replay()`]: what the model does.
 //! * [`tally`]: the tally beside the table (Ask 7).
 //! * [`widen()`]: a stored 48-bit table at 57 bits (Ask 12).
+//! * [`claim`]: another simulator's table judged (Ask 8).
 //! * [`book`]: a whole run judged from its events alone.
 //! * [`tuned`]: the same steps and converter, written for speed.
 
 pub mod address;
 pub mod book;
 mod bytes;
+pub mod claim;
 pub mod context;
 pub mod event;
 pub mod judge;
@@ -35,6 +37,7 @@ pub mod tuned;
 pub mod widen;
 
 pub use address::LinearWidth;
+pub use claim::{judge_claim, Judgement};
 pub use context::{Context, Place};
 pub use lookup::{lookup, usable, Address};
 pub use reason::{explain, Reason};

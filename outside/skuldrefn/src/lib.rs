@@ -46,16 +46,22 @@
 //!
 //! A context has a linear width, 48 or 57 bits. [`widen`] makes a table of the
 //! second sort from a stored one of the first.
+//!
+//! [`judge`] says of another simulator's table whether an event may leave it.
 
+mod claim;
 mod context;
 mod logs;
 pub mod raw;
 mod reason;
 mod tally;
 
+pub use claim::{judge, judge_flat, Judgement};
 pub use context::{Context, Place};
 pub use logs::{event_length, events, lines, replay, replay_flat, Line, Replay};
-pub use raw::{FlatContext, FlatReason, FlatReplayed, FlatStep, Kinds, Part, Row, Widened};
+pub use raw::{
+    FlatContext, FlatJudgement, FlatReason, FlatReplayed, FlatStep, Kinds, Part, Row, Widened,
+};
 pub use reason::Reason;
 use std::ops::Range;
 pub use tally::{count, step, step_flat, Tally};

@@ -110,6 +110,18 @@ pub struct Widened {
     pub length: usize,
 }
 
+/// What a claimed table is judged as: 0 accepted, 1 refused event, 2 malformed
+/// claim, 3 unmatched record. `answer` and `rule` are the refused step's, and
+/// `position` is that of the unmatched record; else 0.
+#[repr(C)]
+#[derive(Clone, Copy, Debug, PartialEq, Eq)]
+pub struct FlatJudgement {
+    pub number: u64,
+    pub answer: u64,
+    pub rule: u64,
+    pub position: usize,
+}
+
 extern "C" {
     pub fn skuldrefn_step(
         context: FlatContext,
@@ -188,4 +200,14 @@ extern "C" {
         new_table: *mut u8,
         new_length: usize,
     ) -> Widened;
+
+    pub fn skuldrefn_judge(
+        context: FlatContext,
+        table: *const u8,
+        table_length: usize,
+        event: *const u8,
+        event_length: usize,
+        claim: *const u8,
+        claim_length: usize,
+    ) -> FlatJudgement;
 }

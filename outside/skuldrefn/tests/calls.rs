@@ -1,7 +1,8 @@
-//! The wrapper itself: document 01's example, flat contexts, 57-bit addresses,
-//! tallies, empty slices and null.
+//! The wrapper itself: document 01's example, flat contexts, claims, 57-bit
+//! addresses, tallies, empty slices and null.
 
 use skuldrefn::{raw, Address, Context, FlatContext, FlatReason, FlatStep, Kinds, Place, Reason};
+use skuldrefn::{FlatJudgement, Judgement};
 use skuldrefn::{Tally, Widened, PCIDS, TABLE_LIMIT};
 use skuldrefn::{PROGRAM_CAPABILITY, PROGRAM_LINEAR_WIDTH, PROGRAM_WIDTH};
 use std::ptr::{null, null_mut};
@@ -187,6 +188,117 @@ fn rules() {
             };
             assert_eq!(skuldrefn::explain(&root, &A, &event), due);
         }
+    }
+}
+
+/// A creation, of which a claim may have the record or not, and a reset, which
+/// leaves nothing.
+#[test]
+fn claims() {
+    let mut other = A;
+    other[7] = 0x46;
+    let (both, swapped) = ([A, other].concat(), [other, A].concat());
+    let unmatched = |position| Judgement::Unmatched { position };
+    let refused = |answer| Judgement::Refused { answer, rule: 0 };
+    let judge = |event: &[u8], claim: &[u8]| skuldrefn::judge(&guest(), &A, event, claim);
+    for (claim, due) in [
+        (&both[..], Judgement::Accepted),
+        (&A, Judgement::Accepted),
+        (&other, Judgement::Accepted),
+        (&[], Judgement::Accepted),
+        (&swapped, unmatched(17)),
+        (&[A, A].concat(), unmatched(17)),
+        (&[both.clone(), A.to_vec()].concat(), unmatched(34)),
+        (&both[..33], Judgement::Malformed),
+        (&W, Judgement::Malformed),
+        (&A.repeat(2_771), Judgement::Malformed),
+    ] {
+        assert_eq!(judge(&other, claim), due, "{claim:x?}");
+    }
+    assert_eq!(judge(&RESET, &[]), Judgement::Accepted);
+    assert_eq!(judge(&RESET, &A), unmatched(0));
+    // Where the event is refused, nothing is said of the claim.
+    for claim in [&A[..], &[], &[0]] {
+        assert_eq!(judge(&VMXON, claim), refused(6));
+        assert_eq!(judge(&[], claim), refused(4));
+        let before = |table: &[u8]| skuldrefn::judge(&guest(), table, &RESET, claim);
+        assert_eq!(before(&A[..16]), refused(3));
+        assert_eq!(before(&A.repeat(2_771)), refused(2));
+        // 2,770 records have 47,090 bytes: there is no room for another.
+        let full = skuldrefn::judge(&guest(), &A.repeat(2_770), &A, claim);
+        assert_eq!(full, refused(12));
+    }
+    // The rule of an EPTP with bit 7.
+    let root = Context {
+        place: Place::Root,
+        ..Context::program()
+    };
+    let eptp = 0x12_3456_709E_u64.to_le_bytes();
+    let entry = [&[20, 1, 5, 0, 1], &eptp[..], &[0; 3]].concat();
+    let due = Judgement::Refused {
+        answer: 10,
+        rule: 4,
+    };
+    assert_eq!(skuldrefn::judge(&root, &[], &entry, &[]), due);
+    // At 57 bits.
+    let wide = Context {
+        linear_width: 57,
+        ..guest()
+    };
+    let judge = |claim: &[u8]| skuldrefn::judge(&wide, &W, &W, claim);
+    assert_eq!(judge(&[W, W].concat()), Judgement::Accepted);
+    assert_eq!(judge(&[W, W, W].concat()), unmatched(36));
+    assert_eq!(judge(&A), Judgement::Malformed);
+}
+
+#[test]
+fn claims_as_numbers() {
+    let numbers = |number, answer, rule, position| FlatJudgement {
+        number,
+        answer,
+        rule,
+        position,
+    };
+    for (flat, due) in [
+        (numbers(0, 0, 0, 0), Some(Judgement::Accepted)),
+        (
+            numbers(1, 10, 4, 0),
+            Some(Judgement::Refused {
+                answer: 10,
+                rule: 4,
+            }),
+        ),
+        (numbers(2, 0, 0, 0), Some(Judgement::Malformed)),
+        (
+            numbers(3, 0, 0, 17),
+            Some(Judgement::Unmatched { position: 17 }),
+        ),
+        // These stand for nothing.
+        (numbers(0, 0, 0, 1), None),
+        (numbers(0, 1, 0, 0), None),
+        (numbers(1, 4, 0, 1), None),
+        (numbers(2, 0, 0, 17), None),
+        (numbers(3, 0, 1, 17), None),
+        (numbers(4, 0, 0, 0), None),
+        (numbers(1 << 32, 0, 0, 0), None),
+    ] {
+        assert_eq!(flat.judgement(), due, "{flat:?}");
+    }
+    let odd = FlatContext {
+        place: 3,
+        ..start()
+    };
+    let judged = skuldrefn::judge_flat(&odd, &A, &RESET, &[]);
+    assert_eq!(judged, numbers(1, 1, 0, 0));
+    // SAFETY: null goes with length 0, which the header allows.
+    unsafe {
+        let reset = RESET.as_ptr();
+        let judged = raw::skuldrefn_judge(start(), null(), 0, reset, 1, null(), 0);
+        assert_eq!(judged, numbers(0, 0, 0, 0));
+        let judged = raw::skuldrefn_judge(start(), null(), 0, null(), 0, null(), 0);
+        assert_eq!(judged, numbers(1, 4, 0, 0));
+        let judged = raw::skuldrefn_judge(start(), null(), 0, reset, 1, A.as_ptr(), 17);
+        assert_eq!(judged, numbers(3, 0, 0, 0));
     }
 }
 

@@ -10,6 +10,7 @@ mod ask_2;
 mod ask_5;
 mod ask_6;
 mod ask_7;
+mod ask_8;
 mod contexts;
 mod events;
 mod lookups;
