@@ -1,7 +1,7 @@
 /*
  * Document 01's five events as a log, which is cut into its events, one step
  * each, with a tally; a lookup, a fresh count, a conversion, a reason and two claims
- * between them.
+ * between them. In the end a walk of page tables.
  *
  *     cc -I outside/c outside/c/example.c target/staticlib/libskuldrefn.a
  */
@@ -36,6 +36,18 @@ static skuldrefn_tally fresh = {0};
 
 /* A table for 57-bit linear addresses. */
 static uint8_t wide[SKULDREFN_TABLE_LIMIT];
+
+/*
+ * One table that all levels share, the guest's and EPT's: entry 0 points at itself,
+ * entry 1 at page 3, and entry 3 at page ABCDEh.
+ */
+static const uint8_t image[32] = {
+    7, 0, 0, 0, 0, 0, 0, 0, 7, 0x30, 0, 0, 0, 0, 0, 0,
+    0, 0, 0, 0, 0, 0, 0, 0, 7, 0xE0, 0xCD, 0xAB, 0, 0, 0, 0,
+};
+
+/* The combined translation of page 1 for VPID 5 and PCID 0, to frame ABCDEh. */
+static const uint8_t translation[22] = {3, 5, 0, 0, 0, 0, 0, 1, 0, 0, 0, 0, 0xDE, 0xBC, 0x0A};
 
 int main(void)
 {
@@ -120,5 +132,12 @@ int main(void)
 
     /* INVVPID took the record, and the step took it off. */
     wrong |= tally.pcids[1] != 0 || tally.kinds.rows[SKULDREFN_KIND_LINEAR - 1].spans[0] != 0;
+
+    /* What may be cached of 1678h: the guest's table has page 3 there, and EPT's frame ABCDEh for it. */
+    skuldrefn_walked walk = skuldrefn_walk(
+        context, image, sizeof image, 0, UINT64_C(0x1E), 5, UINT64_C(0x1678));
+    printf("walk: ending %" PRIu64 ", %" PRIu64 " entries read\n", walk.ending, walk.read);
+    wrong |= walk.ending != SKULDREFN_WALK_TRANSLATED || walk.read != 24
+        || memcmp(walk.record, translation, sizeof translation) != 0;
     return wrong;
 }

@@ -16,7 +16,7 @@
  * pcids is aligned as uint16_t is, and its length is the number of counts.
  *
  * Every other input is answered: any number in any field or count, any bytes in
- * a table, a record, an event or a log, and any length of a buffer.
+ * a table, a record, an event, a log or an image, and any length of a buffer.
  *
  * What the model does, rule by rule, is in docs/MODEL.md. A record or an event
  * is one byte of kind, then a body whose fields and length the kind fixes;
@@ -521,6 +521,59 @@ skuldrefn_judgement skuldrefn_judge(
     const uint8_t *table, size_t table_length,
     const uint8_t *event, size_t event_length,
     const uint8_t *claim, size_t claim_length);
+
+/* How a walk ends: with a translation, or with the first ground met. */
+enum {
+    SKULDREFN_WALK_TRANSLATED = 0,
+    SKULDREFN_WALK_BAD_CONTEXT = 1,   /* a context field is out of its range */
+    SKULDREFN_WALK_BAD_EPTP = 2,
+    SKULDREFN_WALK_NOT_CANONICAL = 3, /* the linear address, at 48 bits */
+    SKULDREFN_WALK_ABSENT = 4,        /* a guest entry with bit 0 clear, an EPT entry
+                                         with bits 2:0 clear */
+    SKULDREFN_WALK_TOO_HIGH = 5,      /* a guest-physical address of 2^48 or more */
+    SKULDREFN_WALK_OUTSIDE = 6        /* an entry that is not in the image with all
+                                         of its eight bytes */
+};
+
+typedef struct {
+    uint64_t ending;      /* SKULDREFN_WALK_.. */
+    uint64_t rule;        /* that a bad EPTP breaks; else 0 */
+    uint64_t guest_level; /* where 4, 5 or 6 was met: the level of the guest entry on
+                             the way, 4 (PML4) to 1, 0 for the final address; */
+    uint64_t ept_level;   /* that of the EPT entry, 4 to 1, 0 for the guest entry
+                             itself and for an address that is too high; */
+    uint64_t address;     /* the entry's physical address, or the guest-physical
+                             address. All three are 0 with 0 to 3. */
+    uint64_t read;        /* the entries read, at most 24; one outside the image is
+                             not counted */
+    uint8_t record[22];   /* the translation as a record of kind 3; all 0 with a
+                             ground */
+} skuldrefn_walked;
+
+/*
+ * Works out what the processor may cache of a linear address: walks the guest's
+ * four levels, each guest-physical address through EPT's four.
+ *
+ * context: gives the capability and the width N, by which the EPTP is judged, and
+ * the PCID of the record. All of it must be in range; place and CPL do not matter,
+ * and the linear width, 48 or 57, does not either: the address is one of 48 bits.
+ * image, image_length: memory from physical address 0 on; it is only read.
+ * root: the guest-physical address of the guest's first table, bits 11:0 ignored; if
+ * any of bits 63:48 is set, the walk ends with SKULDREFN_WALK_TOO_HIGH.
+ * eptp: the EPTP; its bits 51:12 are where the first EPT table is, and the record's
+ * EP4TA.
+ * vpid: the record's VPID.
+ * address: the linear address.
+ *
+ * The record is one for tables of linear width 48; at 57 a step refuses it with 4. It
+ * has the smaller of the two page sizes, page and frame rounded down to
+ * it, and the global mark of the last guest entry. Reserved bits and access rights
+ * are not looked at, and the frame may lie outside the image.
+ */
+skuldrefn_walked skuldrefn_walk(
+    skuldrefn_context context,
+    const uint8_t *image, size_t image_length,
+    uint64_t root, uint64_t eptp, uint16_t vpid, uint64_t address);
 
 #ifdef __cplusplus
 }

@@ -26,7 +26,7 @@ fn is_within_width(eptp: u64, width: u64) -> bool
 
 // The first rule that an EPTP breaks under the context's capability and width: 1 memory type, 2 walk length,
 // 3 accessed and dirty flag, 4 bits 11:7, 5 bits above the width; 0 if it is good.
-fn eptp_rule(c: Context, eptp: u64) -> u64
+pub fn eptp_rule(c: Context, eptp: u64) -> u64
     ensures { λ r. ⌜ r ≡ eptp-rule c eptp ⌝ }
 {
     let capability = c.capability;

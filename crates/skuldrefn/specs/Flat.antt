@@ -4,7 +4,7 @@ use mathlib.Core.Bool.{cond}
 use mathlib.Core.List.{List}
 use mathlib.Core.Path.{_≡_}
 use lib.Dec.{eqb}
-use lib.ListN.{length}
+use lib.ListN.{length, replicate}
 use Rattle.model.specs.declared.Context.{Context}
 use Rattle.model.specs.declared.Place.the-variants.{Outside}
 use Rattle.model.specs.declared.Step.{Step}
@@ -17,6 +17,9 @@ use Rattle.counted_steps.specs.Steps.{counted-stepped, counted-pcids, counted-w
 use Rattle.claims.specs.declared.Values as Claims
 use Rattle.claims.specs.declared.Judgement.the-variants.{Refused}
 use Rattle.claims.specs.Claims.{judgement, judgement-values}
+use Rattle.walks.specs.declared.Outcome.{Outcome}
+use Rattle.walks.specs.declared.Ending.the-variants.{ContextOutOfRange}
+use Rattle.walks.specs.Walks.{memory, ending-values, walk-of}
 use Rattle.flat_contexts.specs.declared.FlatContext.{FlatContext}
 use Rattle.flat_contexts.specs.Contexts.{is-known, unflatten, flatten}
 use Rattle.skuldrefn.specs.declared.FlatStep.{FlatStep}
@@ -26,6 +29,7 @@ use Rattle.skuldrefn.specs.declared.FlatCounts.{FlatCounts}
 use Rattle.skuldrefn.specs.declared.FlatPart.{FlatPart}
 use Rattle.skuldrefn.specs.declared.FlatReason.{FlatReason}
 use Rattle.skuldrefn.specs.declared.FlatReplayed.{FlatReplayed}
+use Rattle.skuldrefn.specs.declared.FlatWalk.{FlatWalk}
 use Rattle.model.specs.Tables.{limit}
 use Rattle.logs.specs.declared.Replayed.{Replayed}
 use Rattle.logs.specs.Replays.{Replays, ByTheBook}
@@ -93,6 +97,17 @@ flat-explanation c r e =
 -- a judgement: a refusal with 1 where a number stands for nothing
 unfoldable pub flat-judgement : FlatContext → List ℕ → List ℕ → List ℕ → Claims.Values
 flat-judgement c t e claim = judgement-values (cond (is-known c) (judgement (unflatten c) t e claim) (Refused 1 0))
+
+-- a walk: its ending, the entries read and the record; a context out of range where a number stands for nothing
+abbrev pub flat-outcome : Outcome → FlatWalk
+flat-outcome o = record { ending = ending-values (o .ending); read = o .read; «record» = o .«record» }
+
+unfoldable pub flat-walk : FlatContext → List ℕ → ℕ → ℕ → ℕ → ℕ → FlatWalk
+flat-walk c image root eptp vpid address =
+    flat-outcome
+    (cond (is-known c)
+    (walk-of (memory image) (unflatten c) root eptp vpid address)
+    (record { ending = ContextOutOfRange; read = 0; «record» = replicate 22 0 }))
 
 -- the context of a capability, N and a linear width after a reset
 abbrev pub fresh : ℕ → ℕ → ℕ → Context

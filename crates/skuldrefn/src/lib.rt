@@ -7,13 +7,14 @@ use model::Context;
 use model::Place;
 use model::Step;
 use tally_rows::KindCounts;
+use walks::Ending;
 use widening::Widened;
 ghost use mathlib.Core.Path.{_≡_};
 ghost use lib.ListN.{length};
 ghost use Rattle.widening.specs.Widening.{widening, widening-written};
 ghost use Rattle.logs.specs.Logs.{told-length};
 ghost use Rattle.tables.specs.Counts.{table-pcid-counts};
-ghost use Rattle.skuldrefn.specs.Flat.{refused, flat-result, flat-step, flat-written, flat-counted-step, flat-counted-pcids, flat-counted-written, flat-counts, flat-lookup, flat-explanation, flat-judgement, fresh, FlatReplays};
+ghost use Rattle.skuldrefn.specs.Flat.{refused, flat-result, flat-step, flat-written, flat-counted-step, flat-counted-pcids, flat-counted-written, flat-counts, flat-lookup, flat-explanation, flat-judgement, flat-walk, fresh, FlatReplays};
 ghost use mathlib.Core.Bool.{cond};
 
 // What a step reports.
@@ -264,6 +265,51 @@ pub extern "C" fn skuldrefn_judge(
         return claims::values_of(Judgement::Refused(1, 0));
     }
     claims::values_of(claims::judge(flat_contexts::context_of(context), table, event, claim))
+}
+
+// What a walk answers: how it ended and where, as numbers; how many entries it read; and the kind 3 record, all 0 where it
+// met a ground.
+#[repr(C)]
+pub struct FlatWalk {
+    pub ending: walks::Values,
+    pub read: u64,
+    pub record: [u8; 22],
+}
+
+// Walks the guest's tables in an image of memory, through the EPT of an EPTP, for a linear address.
+#[no_mangle]
+pub extern "C" fn skuldrefn_walk(
+    context: FlatContext,
+    image: &[u8],
+    root: u64,
+    eptp: u64,
+    vpid: u16,
+    address: u64,
+) -> FlatWalk
+    ensures { λ r. ⌜ r ≡ flat-walk context (now (image .entry)) root eptp vpid address ⌝ }
+{
+    if !flat_contexts::is_known(context) {
+        return FlatWalk {
+            ending: walks::values_of(Ending::ContextOutOfRange),
+            read: 0,
+            record: [0u8; 22],
+        };
+    }
+    let walked = walks::walk(
+        flat_contexts::context_of(context),
+        image,
+        root,
+        eptp,
+        vpid,
+        address,
+    );
+    let ending = walked.ending;
+    let record = walked.record;
+    FlatWalk {
+        ending: walks::values_of(ending),
+        read: walked.read,
+        record,
+    }
 }
 
 // How many bytes the first event of a log has by its kind, more than the log where the record is cut; 0

@@ -7,8 +7,8 @@ mod tally;
 
 use model::{Address, Context, Place, Reason};
 pub use skuldrefn::{
-    explain_flat, judge_flat, plain_step_flat, replay_flat, FlatContext, FlatJudgement, FlatReason,
-    FlatReplayed, FlatStep, Part,
+    explain_flat, judge_flat, plain_step_flat, replay_flat, walk_flat, FlatContext, FlatJudgement,
+    FlatReason, FlatReplayed, FlatStep, FlatWalk, Part,
 };
 use std::ops::Range;
 pub use tally::{count, count_lent, counted_step_lent, step_flat};
@@ -120,6 +120,29 @@ pub fn judgement(flat: &FlatJudgement) -> Option<model::Judgement> {
         }
         skuldrefn::Judgement::Malformed => model::Judgement::Malformed,
         skuldrefn::Judgement::Unmatched { position } => model::Judgement::Unmatched { position },
+    })
+}
+
+/// A flat walk as the model's; None for numbers that stand for none.
+pub fn walk(flat: &FlatWalk) -> Option<model::Walk> {
+    use model::walk::{Ending, Spot};
+    let walk = flat.walk()?;
+    let spot = |spot: skuldrefn::Spot| Spot {
+        guest_level: spot.guest_level,
+        ept_level: spot.ept_level,
+        address: spot.address,
+    };
+    Some(model::Walk {
+        ending: match walk.ending {
+            skuldrefn::Ending::Translated(record) => Ending::Translated(record),
+            skuldrefn::Ending::ContextOutOfRange => Ending::ContextOutOfRange,
+            skuldrefn::Ending::BadEptp(rule) => Ending::BadEptp(rule),
+            skuldrefn::Ending::NotCanonical => Ending::NotCanonical,
+            skuldrefn::Ending::Absent(at) => Ending::Absent(spot(at)),
+            skuldrefn::Ending::TooHigh(at) => Ending::TooHigh(spot(at)),
+            skuldrefn::Ending::Outside(at) => Ending::Outside(spot(at)),
+        },
+        read: walk.read,
     })
 }
 

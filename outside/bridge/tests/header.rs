@@ -2,7 +2,7 @@
 
 use common::{KINDS, LINEAR_WIDTHS};
 use model::{LinearWidth, Reason};
-use skuldrefn::raw::{Counted, CountedStep};
+use skuldrefn::raw::{Counted, CountedStep, FlatWalk};
 use skuldrefn::FlatJudgement;
 use std::env::temp_dir;
 use std::fs;
@@ -21,6 +21,7 @@ at 57 bits: 18 bytes
 INVVPID: takes the record
 a table that keeps it: unmatched at byte 0
 5 0 1 0
+walk: ending 0, 24 entries read
 ";
 
 /// The output of a program; None if there is no such program.
@@ -238,6 +239,80 @@ fn the_header_names_every_judgement() {
     }
 }
 
+/// Walks with a VPID of all sixteen bits, and prints the bytes of the record, a
+/// ground of each sort, and where the fields of the struct are.
+const WALK: &str = r#"
+#include "skuldrefn.h"
+#include <inttypes.h>
+#include <stdio.h>
+
+static uint8_t image[16] = {7, 0, 0, 0, 0, 0, 0, 0, 7, 0x10};
+
+static void say(skuldrefn_context context, uint64_t root, uint64_t eptp, uint64_t address, size_t length)
+{
+    skuldrefn_walked walk = skuldrefn_walk(context, image, length, root, eptp, 65535, address);
+    printf("%" PRIu64 " %" PRIu64 " %" PRIu64 " %" PRIu64 " %" PRIx64 " %" PRIu64 ":",
+        walk.ending, walk.rule, walk.guest_level, walk.ept_level, walk.address, walk.read);
+    for (size_t i = 0; i < sizeof walk.record; i++) {
+        printf(" %x", walk.record[i]);
+    }
+    printf("\n");
+}
+
+int main(void)
+{
+    skuldrefn_context context = {
+        SKULDREFN_PROGRAM_CAPABILITY, SKULDREFN_PROGRAM_WIDTH, SKULDREFN_PROGRAM_LINEAR_WIDTH,
+        4095, 0, SKULDREFN_OUTSIDE, 0, 0, 0};
+
+    say(context, 0, 0x1E, 0x1678, 16);
+    context.place = 3;
+    say(context, 0, 0x1E, 0x1678, 16);
+    context.place = SKULDREFN_OUTSIDE;
+    say(context, 0, 0x9E, 0x1678, 16);
+    say(context, 0, 0x1E, UINT64_C(1) << 47, 16);
+    say(context, UINT64_C(1) << 63, 0x1E, 0x1678, 16);
+    say(context, 0, 0x1E, 0x1678, 15);
+    image[8] = 0;
+    say(context, 0, 0x1E, 0x1678, 16);
+    say(context, 0, 0x1E, 0x1678, 0);
+    printf("%zu %zu %zu\n", sizeof(skuldrefn_walked), offsetof(skuldrefn_walked, read),
+        offsetof(skuldrefn_walked, record));
+    return 0;
+}
+"#;
+
+#[test]
+fn a_walk_in_c() {
+    let source = Temporary::new("walk.c");
+    fs::write(&source.0, WALK).expect("a file");
+    let Some(printed) = printed("walk", &source.0) else {
+        return;
+    };
+    let (walks, sizes) = printed.trim_end().rsplit_once('\n').expect("lines");
+    let nothing = " 0".repeat(22);
+    let due = [
+        // Page 1 to frame 1 for VPID FFFFh and PCID FFFh, EP4TA 0.
+        "0 0 0 0 0 24: 3 ff ff ff f 0 0 1 0 0 0 0 1 0 0 0 0 0 0 0 0 0".to_string(),
+        format!("1 0 0 0 0 0:{nothing}"),
+        // Bit 7 of the EPTP.
+        format!("2 4 0 0 0 0:{nothing}"),
+        format!("3 0 0 0 0 0:{nothing}"),
+        format!("5 0 4 0 8000000000000000 0:{nothing}"),
+        // The guest's entry of level 1 lacks a byte; then it is absent.
+        format!("6 0 1 0 8 19:{nothing}"),
+        format!("4 0 1 0 8 20:{nothing}"),
+        format!("6 0 4 4 0 0:{nothing}"),
+    ];
+    assert_eq!(walks.lines().collect::<Vec<_>>(), due);
+    let due = [
+        size_of::<FlatWalk>(),
+        offset_of!(FlatWalk, read),
+        offset_of!(FlatWalk, record),
+    ];
+    assert_eq!(sizes, due.map(|size| size.to_string()).join(" "));
+}
+
 fn header() -> String {
     fs::read_to_string(folder().join("skuldrefn.h")).expect("the header")
 }
@@ -429,6 +504,25 @@ fn the_header_names_every_rule() {
     ];
     for (number, name) in (1..).zip(names) {
         let line = format!("    SKULDREFN_RULE_{name} = {number}");
+        assert!(header.lines().any(|own| own.starts_with(&line)), "{line}");
+    }
+}
+
+/// The endings of a walk, in document 02's order.
+#[test]
+fn the_header_names_every_ending_of_a_walk() {
+    let header = header();
+    let names = [
+        "TRANSLATED",
+        "BAD_CONTEXT",
+        "BAD_EPTP",
+        "NOT_CANONICAL",
+        "ABSENT",
+        "TOO_HIGH",
+        "OUTSIDE",
+    ];
+    for (number, name) in names.into_iter().enumerate() {
+        let line = format!("    SKULDREFN_WALK_{name} = {number}");
         assert!(header.lines().any(|own| own.starts_with(&line)), "{line}");
     }
 }

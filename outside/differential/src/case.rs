@@ -8,6 +8,7 @@ use crate::reached::Reached;
 use crate::replay::ReplayCase;
 use crate::run::RunCase;
 use crate::step::StepCase;
+use crate::walk::WalkCase;
 use crate::widen::WidenCase;
 use model::LinearWidth;
 use std::fmt;
@@ -24,6 +25,7 @@ pub enum Case {
     Run(RunCase),
     Replay(ReplayCase),
     Widen(WidenCase),
+    Walk(WalkCase),
 }
 
 /// A case in which the library differs from the model, and in what.
@@ -45,6 +47,7 @@ impl Case {
             Case::Run(case) => case.check(reached),
             Case::Replay(case) => case.check(reached),
             Case::Widen(case) => case.check(reached),
+            Case::Walk(case) => case.check(reached),
         }
     }
 
@@ -70,6 +73,7 @@ impl Case {
             Case::Run(case) => case.smaller().into_iter().map(Case::Run).collect(),
             Case::Replay(case) => case.smaller().into_iter().map(Case::Replay).collect(),
             Case::Widen(case) => case.smaller().into_iter().map(Case::Widen).collect(),
+            Case::Walk(case) => case.smaller().into_iter().map(Case::Walk).collect(),
         }
     }
 }
@@ -85,6 +89,7 @@ impl fmt::Display for Case {
             Case::Run(case) => case.fmt(f),
             Case::Replay(case) => case.fmt(f),
             Case::Widen(case) => case.fmt(f),
+            Case::Walk(case) => case.fmt(f),
         }
     }
 }

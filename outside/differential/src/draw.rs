@@ -9,6 +9,7 @@ use crate::lookup::LookupCase;
 use crate::replay::{starts, ReplayCase};
 use crate::run::{Moment, RunCase};
 use crate::step::StepCase;
+use crate::walk::WalkCase;
 use crate::widen::WidenCase;
 use bridge::FlatContext;
 use common::{LINEAR_WIDTHS, LOG_LIMIT, PCIDS, ROW, TABLE_LIMIT};
@@ -299,5 +300,18 @@ pub fn widen(rng: &mut Rng) -> WidenCase {
     WidenCase {
         table: case.table,
         new: buffer(rng, case.new.len()),
+    }
+}
+
+/// A walk, aimed at a translation or at any ground.
+pub fn walk(rng: &mut Rng) -> WalkCase {
+    let case = generate::walk(rng);
+    WalkCase {
+        context: any_flat(rng, &case.context),
+        image: case.image,
+        root: case.root,
+        eptp: case.eptp,
+        vpid: case.vpid,
+        address: case.address,
     }
 }

@@ -1,10 +1,12 @@
 //! What the model says, in the library's form.
 
+use crate::walk::WalkCase;
 use bridge::{FlatContext, FlatReason, FlatReplayed, FlatStep, Part};
 use common::{write_row, ROW, TABLE_LIMIT};
 use model::event::Event;
 use model::reason::has_scope;
-use model::{Address, Context, Judgement, LinearWidth, Reason, Step, Tally, PCIDS};
+use model::walk::{walk_with_spans, Ending};
+use model::{Address, Context, Judgement, LinearWidth, Reason, Step, Tally, Walk, PCIDS};
 use std::mem::swap;
 use std::ops::Range;
 
@@ -112,6 +114,21 @@ pub fn left(context: &FlatContext, table: &[u8], event: &[u8]) -> Vec<u8> {
     }
     new.truncate(step.length);
     new
+}
+
+/// A walk, and the spans of the two pages of a translation. A place or EPT number
+/// that stands for nothing is out of its range.
+pub fn walk(case: &WalkCase) -> (Walk, Option<[u64; 2]>) {
+    match bridge::context(&case.context) {
+        None => {
+            let ending = Ending::ContextOutOfRange;
+            (Walk { ending, read: 0 }, None)
+        }
+        Some(known) => {
+            let (root, eptp, vpid) = (case.root, case.eptp, case.vpid);
+            walk_with_spans(&known, &case.image, root, eptp, vpid, case.address)
+        }
+    }
 }
 
 /// A whole log: the model's steps, as long as there is room for a row. With two

@@ -9,6 +9,7 @@ use crate::lookup::LookupCase;
 use crate::replay::ReplayCase;
 use crate::run::{Moment, RunCase};
 use crate::step::StepCase;
+use crate::walk::WalkCase;
 use crate::widen::WidenCase;
 use bridge::FlatContext;
 use generate::SparseTally;
@@ -30,6 +31,7 @@ pub fn parse(text: &str) -> Result<Case, String> {
         "run" => lines.run().map(Case::Run),
         "replay" => lines.replay().map(Case::Replay),
         "widen" => lines.widen().map(Case::Widen),
+        "walk" => lines.walk().map(Case::Walk),
         other => Err(format!("no case '{other}'")),
     }
 }
@@ -262,6 +264,46 @@ impl<'a> Lines<'a> {
         Ok(WidenCase {
             table: self.bytes("table")?,
             new: self.buffer("new")?,
+        })
+    }
+
+    fn image(&mut self) -> Result<Vec<u8>, String> {
+        let numbers = self.any_numbers("image")?;
+        let (length, entries) = numbers.split_first().ok_or("image: no length")?;
+        if *length > 1 << 24 {
+            return Err(format!("image: {length:#x} bytes"));
+        }
+        let mut image = vec![0; *length as usize];
+        for pair in entries.chunks(2) {
+            let [at, entry] = pair else {
+                return Err("image: an address without its entry".to_string());
+            };
+            let bytes = entry.to_le_bytes();
+            let start = usize::try_from(*at).unwrap_or(usize::MAX);
+            let place = image.get_mut(start..).unwrap_or_default();
+            let fit = place.len().min(8);
+            place[..fit].copy_from_slice(&bytes[..fit]);
+            if bytes[fit..].iter().any(|byte| *byte != 0) {
+                return Err(format!("image: the entry at {at:#x} ends outside"));
+            }
+        }
+        Ok(image)
+    }
+
+    fn walk(&mut self) -> Result<WalkCase, String> {
+        let context = self.context()?;
+        let image = self.image()?;
+        let [root] = self.numbers("root")?;
+        let [eptp] = self.numbers("eptp")?;
+        let [vpid] = self.numbers("vpid")?;
+        let [address] = self.numbers("address")?;
+        Ok(WalkCase {
+            context,
+            image,
+            root,
+            eptp,
+            vpid: u16::try_from(vpid).map_err(|_| format!("vpid: {vpid:#x} is too large"))?,
+            address,
         })
     }
 }

@@ -1,5 +1,8 @@
 //! How often what was reached.
 
+use crate::walk::number;
+use model::walk::{Ending, Spot};
+use model::Walk;
 use std::fmt;
 
 /// Counts over all that was compared.
@@ -9,8 +12,34 @@ pub struct Reached {
     widths: [Counts; 3],
     /// Conversions by their answer.
     pub widened: [u64; 13],
+    pub walks: Walks,
     pub runs: u64,
     pub replays: u64,
+}
+
+/// Counts of walks at all linear widths.
+#[derive(Clone, Debug, Default)]
+pub struct Walks {
+    /// Absent entries, and entries outside the image, by the guest level and the
+    /// EPT level, each from 0.
+    pub absent: [[u64; 5]; 5],
+    pub outside: [[u64; 5]; 5],
+    /// Addresses of 2^48 or more by the guest level.
+    pub too_high: [u64; 5],
+    /// EPTPs by the rule that they break.
+    pub rules: [u64; 6],
+    /// Translations by the guest's span and EPT's.
+    pub spans: [[u64; 3]; 3],
+    /// Global translations.
+    pub global: u64,
+    /// Walks by the entries read.
+    pub read: [u64; 25],
+    /// Absent entries in the last eight bytes of the image, and entries of which
+    /// only the last byte is outside.
+    pub last_bytes: u64,
+    pub one_past: u64,
+    /// Images of less than 16 bytes.
+    pub short: u64,
 }
 
 /// Counts at one linear width.
@@ -45,6 +74,8 @@ pub struct Counts {
     pub claim_rules: [u64; 6],
     /// Claims of which not the first record is the first unmatched one.
     pub part_matched: u64,
+    /// Walks by their ending.
+    pub walks: [u64; 7],
     /// Steps, single and plain or in runs, by their EPTP rule.
     pub rules: [u64; 6],
     /// Explanations by the step's EPTP rule.
@@ -73,6 +104,34 @@ impl Reached {
         [(48, &self.widths[0]), (57, &self.widths[1])]
     }
 
+    /// A walk in an image of so many bytes, and the spans of a translation.
+    pub fn walk(&mut self, linear_width: u64, length: usize, walk: &Walk, spans: Option<[u64; 2]>) {
+        self.at(linear_width).walks[number(&walk.ending)] += 1;
+        let counts = &mut self.walks;
+        let place = |at: Spot| (at.guest_level as usize, at.ept_level as usize);
+        match walk.ending {
+            Ending::Translated(record) => counts.global += u64::from(record[5] == 1),
+            Ending::BadEptp(rule) => counts.rules[rule as usize] += 1,
+            Ending::Absent(at) => {
+                let (guest, ept) = place(at);
+                counts.absent[guest][ept] += 1;
+                counts.last_bytes += u64::from(at.address + 8 == length as u64);
+            }
+            Ending::TooHigh(at) => counts.too_high[at.guest_level as usize] += 1,
+            Ending::Outside(at) => {
+                let (guest, ept) = place(at);
+                counts.outside[guest][ept] += 1;
+                counts.one_past += u64::from(at.address + 8 == length as u64 + 1);
+            }
+            Ending::ContextOutOfRange | Ending::NotCanonical => {}
+        }
+        if let Some([guest, ept]) = spans {
+            counts.spans[guest as usize][ept as usize] += 1;
+        }
+        counts.read[walk.read as usize] += 1;
+        counts.short += u64::from(length < 16);
+    }
+
     /// Calls of the library that were compared; a replay counts its rows.
     pub fn calls(&self) -> u64 {
         let widened: u64 = self.widened.iter().sum();
@@ -94,7 +153,7 @@ impl Counts {
     }
 
     fn calls(&self) -> u64 {
-        let all: [&[u64]; 8] = [
+        let all: [&[u64]; 9] = [
             &self.steps,
             &self.counted,
             &self.run_steps,
@@ -103,6 +162,7 @@ impl Counts {
             &self.lookups,
             &self.reasons,
             &self.claims,
+            &self.walks,
         ];
         all.into_iter().flatten().sum()
     }
@@ -146,6 +206,7 @@ impl fmt::Display for Counts {
         writeln!(f, "13 instead of: {}", numbered(&self.instead))?;
         writeln!(f, "accepted by kind: {}", numbered(&self.accepted))?;
         writeln!(f, "reasons: {}", numbered(&self.reasons))?;
+        writeln!(f, "walks by ending: {}", numbered(&self.walks))?;
         writeln!(
             f,
             "EPTP rules: {}; in reasons: {}; of claims: {}",
@@ -176,8 +237,25 @@ impl fmt::Display for Reached {
         }
         writeln!(f, "other linear widths: {} answers", self.widths[2].calls())?;
         writeln!(f, "conversions by answer: {}", numbered(&self.widened))?;
+        writeln!(f, "{}", self.walks)?;
         writeln!(f, "{} runs, {} replays", self.runs, self.replays)?;
         write!(f, "{} answers compared", self.calls())
+    }
+}
+
+impl fmt::Display for Walks {
+    fn fmt(&self, f: &mut fmt::Formatter) -> fmt::Result {
+        writeln!(f, "walks by spans: {:?}", self.spans)?;
+        writeln!(f, "absent by guest and EPT level: {:?}", self.absent)?;
+        writeln!(f, "outside by guest and EPT level: {:?}", self.outside)?;
+        writeln!(f, "too high by guest level: {:?}", self.too_high)?;
+        writeln!(f, "walks by EPTP rule: {}", numbered(&self.rules))?;
+        writeln!(f, "walks by entries read: {}", numbered(&self.read))?;
+        write!(
+            f,
+            "{} global; {} absent at the image's end, {} outside by a byte; {} short images",
+            self.global, self.last_bytes, self.one_past, self.short
+        )
     }
 }
 

@@ -8,11 +8,12 @@ use crate::explain::ExplainCase;
 use crate::lookup::LookupCase;
 use crate::replay::ReplayCase;
 use crate::step::StepCase;
+use crate::walk::WalkCase;
 use crate::widen::WidenCase;
 use bridge::FlatContext;
 use common::{canonical, encode, is_mapping_kind, CAPABILITY_BITS, KINDS, PAGES};
 use common::{LINEAR_WIDTHS, PCIDS, PROGRAM_CAPABILITY, PROGRAM_WIDTH, ROW, TABLE_LIMIT};
-use generate::{near_tallies, Rng, SparseTally};
+use generate::{image_entries, near_tallies, Rng, SparseTally};
 use model::{Address, Context, LinearWidth, Place};
 
 fn step(rng: &mut Rng, context: FlatContext, table: &[u8], event: &[u8]) -> StepCase {
@@ -475,4 +476,56 @@ pub fn near_widenings(rng: &mut Rng) -> Vec<WidenCase> {
         WidenCase { table, new }
     };
     tables.into_iter().map(with).collect()
+}
+
+/// Walks one bit away from a given one in the root, the EPTP, the address or the
+/// entries, and those with every context near its own.
+pub fn near_walks(rng: &mut Rng) -> Vec<WalkCase> {
+    let case = draw::walk(rng);
+    let entries = image_entries(&case.image);
+    let mut cases = Vec::new();
+    for bit in 0..64 {
+        for field in 0..3 {
+            let mut near = case.clone();
+            let number = match field {
+                0 => &mut near.root,
+                1 => &mut near.eptp,
+                _ => &mut near.address,
+            };
+            *number ^= 1 << bit;
+            cases.push(near);
+        }
+        // Of an image that is full only some.
+        for (at, _) in entries.iter().step_by(1 + entries.len() / 32) {
+            let mut near = case.clone();
+            if let Some(byte) = near.image.get_mut(at + bit / 8) {
+                *byte ^= 1 << (bit % 8);
+            }
+            cases.push(near);
+        }
+    }
+    if let Some(context) = bridge::context(&case.context) {
+        for context in contexts_near(rng, &context) {
+            let case = case.clone();
+            cases.push(WalkCase { context, ..case });
+        }
+    }
+    cases
+}
+
+/// One walk with images of many lengths: as few bytes as there are, and ending
+/// before, in and behind each of its entries.
+pub fn cut_images(rng: &mut Rng) -> Vec<WalkCase> {
+    let case = draw::walk(rng);
+    let entries = image_entries(&case.image);
+    let mut lengths: Vec<usize> = (0..=16).collect();
+    for (at, _) in entries.iter().step_by(1 + entries.len() / 32) {
+        lengths.extend([*at, at + 1, at + 7, at + 8, at + 9]);
+    }
+    let with = |length| {
+        let mut case = case.clone();
+        case.image.resize(length, 0);
+        case
+    };
+    lengths.into_iter().map(with).collect()
 }

@@ -5,7 +5,7 @@
 use crate::buffer::Buffer;
 use bridge::FlatContext;
 use common::hex;
-use generate::SparseTally;
+use generate::{image_entries, SparseTally};
 use model::Address;
 
 /// A line of bytes.
@@ -38,6 +38,15 @@ pub fn context(c: &FlatContext) -> String {
 /// A buffer as a line.
 pub fn buffer(name: &str, buffer: &Buffer) -> String {
     numbers(name, &[buffer.length as u64, buffer.fill])
+}
+
+/// An image as a line: its length, and each entry in it that is not 0, its
+/// address first. At the end of an odd length an entry may be cut.
+pub fn image(image: &[u8]) -> String {
+    let entries = image_entries(image);
+    let mut words = vec![image.len() as u64];
+    words.extend(entries.iter().flat_map(|(at, entry)| [*at as u64, *entry]));
+    numbers("image", &words)
 }
 
 /// A tally as two lines: its thirty counts of kinds and spans; then the length

@@ -112,6 +112,18 @@ pub fn widenings(rng: &mut Rng, reached: &mut Reached) -> Result<(), Failure> {
     all(sweep::near_widenings(rng), Case::Widen, reached)
 }
 
+/// Walks, random and at the bounds.
+pub fn walks(rng: &mut Rng, reached: &mut Reached) -> Result<(), Failure> {
+    for _ in 0..400 {
+        Case::Walk(draw::walk(rng)).compare(reached)?;
+    }
+    all(sweep::cut_images(rng), Case::Walk, reached)?;
+    if rng.one_in(8) {
+        all(sweep::near_walks(rng), Case::Walk, reached)?;
+    }
+    Ok(())
+}
+
 /// A run or a replay that fills the table.
 fn filling(rng: &mut Rng, reached: &mut Reached) -> Result<(), Failure> {
     if rng.one_in(2) {
@@ -122,9 +134,9 @@ fn filling(rng: &mut Rng, reached: &mut Reached) -> Result<(), Failure> {
 }
 
 /// The work of one round.
-const ROUND: [Work; 12] = [
+const ROUND: [Work; 13] = [
     steps, near_steps, tallies, lookups, claims, steps, runs, replays, steps, lookups, explains,
-    widenings,
+    widenings, walks,
 ];
 
 /// Once in so many rounds a table is filled.

@@ -226,3 +226,28 @@ fn conversions_of_every_answer() {
         assert!(reached.widened[answer] > 50, "answer {answer}");
     }
 }
+
+/// Every ground at every pair of levels, every pair of page sizes, every count of
+/// entries, and images that end in an entry.
+#[test]
+fn walks_of_every_ending() {
+    let reached = compare(120, work::walks);
+    for (_, counts) in reached.both() {
+        assert!(counts.walks.iter().all(|count| *count > 500));
+    }
+    let walks = &reached.walks;
+    for guest in 0..5 {
+        assert!(walks.too_high[guest] > 50, "{guest}");
+        for ept in 0..5 {
+            let spot = (guest, ept);
+            let known = spot != (0, 0);
+            assert_eq!(walks.absent[guest][ept] > 20, known, "{spot:?}");
+            assert_eq!(walks.outside[guest][ept] > 20, known, "{spot:?}");
+        }
+    }
+    assert!(walks.spans.iter().flatten().all(|count| *count > 50));
+    assert!(walks.rules[1..].iter().all(|count| *count > 50));
+    assert!(walks.read.iter().all(|count| *count > 50));
+    assert!(walks.global > 500 && walks.short > 500);
+    assert!(walks.last_bytes > 200 && walks.one_past > 200);
+}

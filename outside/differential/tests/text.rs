@@ -17,6 +17,7 @@ fn cases() -> Vec<Case> {
         cases.push(Case::Run(draw::run(&mut rng, 30)));
         cases.push(Case::Replay(draw::replay(&mut rng, 300)));
         cases.push(Case::Widen(draw::widen(&mut rng)));
+        cases.push(Case::Walk(draw::walk(&mut rng)));
     }
     cases
 }
@@ -79,7 +80,7 @@ fn damaged_texts_are_errors() {
         let cut = text.rsplit_once('\n').map_or("", |(before, _)| before);
         assert!(parse(cut).is_err());
     }
-    for text in ["", "case", "case walk", "case step\ncontext 1"] {
+    for text in ["", "case", "case walk", "case fly", "case step\ncontext 1"] {
         assert!(parse(text).is_err());
     }
 }
@@ -101,7 +102,7 @@ fn fuzz(words: &[&str], input: &str) -> Output {
 
 #[test]
 fn the_program_compares_a_case_again() {
-    for case in cases().iter().take(16) {
+    for case in cases().iter().take(18) {
         let output = fuzz(&["--case", "-"], &case.to_string());
         assert_eq!(output.status.code(), Some(0));
         assert_eq!(output.stdout, b"no difference\n");

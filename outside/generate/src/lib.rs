@@ -11,8 +11,8 @@
 //! lends the plain types of a context, an address and a tally, and no rule.
 //!
 //! * [`Rng`]: the generator of numbers.
-//! * [`case`], [`query`], [`explain`], [`widening`]: inputs of one step, of one
-//!   lookup, of one explanation and of one conversion.
+//! * [`case`], [`query`], [`explain`], [`widening`], [`walk()`]: inputs of one step,
+//!   of one lookup, of one explanation, of one conversion and of one walk.
 //! * [`claim()`]: a claimed table after a step.
 //! * [`start`], [`events`], [`log`], [`filling_log`]: whole runs and logs.
 //! * [`context`], [`table`], [`event`], [`address`] and so on: the parts.
@@ -36,6 +36,7 @@ mod rng;
 mod run;
 mod table;
 mod tally;
+mod walk;
 mod widening;
 
 pub use bounds::near_events;
@@ -53,4 +54,5 @@ pub use rng::Rng;
 pub use run::{events, filling_log, log, start};
 pub use table::{any_table, full_table, removal, table};
 pub use tally::{near_tallies, tally, wrong_tally, SparseTally};
+pub use walk::{image_entries, walk, Walk};
 pub use widening::{result_length, table_of_result, widening, Widening};

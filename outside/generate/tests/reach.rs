@@ -4,9 +4,10 @@
 use common::{canonical, field, is_mapping_kind, kinds, sizes};
 use common::{KINDS, LINEAR_WIDTHS, LOG_LIMIT, PCIDS};
 use generate::{case, events, explain, filling_log, log, near_events, near_tallies, other_width};
-use generate::{query, table_of_result, widening, Rng, SparseTally, BAD_LINEAR_WIDTHS};
+use generate::{query, table_of_result, walk, widening, Rng, SparseTally, BAD_LINEAR_WIDTHS};
 use model::event::Event;
 use model::mapping::{records, Mapping};
+use model::walk::{walk_with_spans, Ending};
 use model::LinearWidth::{self, Bits48, Bits57};
 use model::{count, counted_step, lookup, step, widen, Tally, TABLE_LIMIT};
 
@@ -284,6 +285,46 @@ fn every_answer_of_the_converter_is_reached() {
     assert!(grown >= 50 && full >= 5 && upper >= 1_000);
 }
 
+/// Absent and outside at every pair of levels, and every pair of page sizes.
+#[test]
+fn every_ending_of_the_walk_is_reached() {
+    let mut rng = Rng::new(SEED);
+    let (mut absent, mut outside) = ([[0; 5]; 5], [[0; 5]; 5]);
+    let (mut too_high, mut rules, mut spans) = ([0; 5], [0; 6], [[0; 3]; 3]);
+    let (mut contexts, mut addresses, mut whole, mut longest) = (0, 0, 0, 0);
+    for _ in 0..40_000 {
+        let case = walk(&mut rng);
+        let (context, image) = (&case.context, &case.image);
+        let (vpid, address) = (case.vpid, case.address);
+        let (walk, pages) = walk_with_spans(context, image, case.root, case.eptp, vpid, address);
+        match walk.ending {
+            Ending::Translated(_) => {
+                let [guest, ept] = pages.expect("two spans").map(|span| span as usize);
+                spans[guest][ept] += 1;
+            }
+            Ending::ContextOutOfRange => contexts += 1,
+            Ending::BadEptp(rule) => rules[rule as usize] += 1,
+            Ending::NotCanonical => addresses += 1,
+            Ending::Absent(at) => absent[at.guest_level as usize][at.ept_level as usize] += 1,
+            Ending::TooHigh(at) => too_high[at.guest_level as usize] += 1,
+            Ending::Outside(at) => outside[at.guest_level as usize][at.ept_level as usize] += 1,
+        }
+        whole += usize::from(walk.read == 24);
+        longest = longest.max(image.len());
+    }
+    println!("absent {absent:?}, outside {outside:?}, too high {too_high:?}");
+    println!("spans {spans:?}, rules {rules:?}, contexts {contexts}, addresses {addresses}");
+    println!("24 entries: {whole}, longest image {longest}");
+    assert_eq!((absent[0][0], outside[0][0], rules[0]), (0, 0, 0));
+    assert!(absent.iter().flatten().skip(1).all(|count| *count >= 20));
+    assert!(outside.iter().flatten().skip(1).all(|count| *count >= 20));
+    assert!(too_high.iter().all(|count| *count >= 100));
+    assert!(spans.iter().flatten().all(|count| *count >= 100));
+    assert!(rules[1..].iter().all(|count| *count >= 100));
+    assert!(contexts >= 300 && addresses >= 300 && whole >= 1_000);
+    assert!(longest <= 32_776);
+}
+
 #[test]
 fn tables_of_a_result() {
     let mut rng = Rng::new(SEED);
@@ -512,6 +553,8 @@ fn the_same_seed_gives_the_same() {
             generate::claim(rng, &case.context, &case.table, &case.table)
         };
         assert_eq!(claimed(&mut one), claimed(&mut two));
+        let (ours, theirs) = (walk(&mut one), walk(&mut two));
+        assert_eq!(format!("{ours}"), format!("{theirs}"));
     }
     assert_ne!(Rng::new(0).number(), Rng::new(1).number());
 }

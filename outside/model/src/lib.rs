@@ -16,6 +16,7 @@
 //! * [`tally`]: the tally beside the table (Ask 7).
 //! * [`widen()`]: a stored 48-bit table at 57 bits (Ask 12).
 //! * [`claim`]: another simulator's table judged (Ask 8).
+//! * [`walk()`]: a guest's tables walked through EPT (Ask 13).
 //! * [`book`]: a whole run judged from its events alone.
 //! * [`tuned`]: the same steps and converter, written for speed.
 
@@ -34,6 +35,7 @@ pub mod scope;
 pub mod step;
 pub mod tally;
 pub mod tuned;
+pub mod walk;
 pub mod widen;
 
 pub use address::LinearWidth;
@@ -44,6 +46,7 @@ pub use reason::{explain, Reason};
 pub use replay::{print, replay, Line};
 pub use step::{step, Step};
 pub use tally::{count, counted_step, Kinds, Tally, PCIDS};
+pub use walk::{walk, Walk};
 pub use widen::{widen, Widened};
 
 /// The longest table, in bytes, at either linear width (Ask 12).

@@ -47,7 +47,8 @@
 //! A context has a linear width, 48 or 57 bits. [`widen`] makes a table of the
 //! second sort from a stored one of the first.
 //!
-//! [`judge`] says of another simulator's table whether an event may leave it.
+//! [`judge`] says of another simulator's table whether an event may leave it, and
+//! [`walk`] what a guest's page tables and EPT let the processor cache.
 
 mod claim;
 mod context;
@@ -55,16 +56,19 @@ mod logs;
 pub mod raw;
 mod reason;
 mod tally;
+mod walk;
 
 pub use claim::{judge, judge_flat, Judgement};
 pub use context::{Context, Place};
 pub use logs::{event_length, events, lines, replay, replay_flat, Line, Replay};
 pub use raw::{
-    FlatContext, FlatJudgement, FlatReason, FlatReplayed, FlatStep, Kinds, Part, Row, Widened,
+    FlatContext, FlatJudgement, FlatReason, FlatReplayed, FlatStep, FlatWalk, Kinds, Part, Row,
+    Widened,
 };
 pub use reason::Reason;
 use std::ops::Range;
 pub use tally::{count, step, step_flat, Tally};
+pub use walk::{walk, walk_flat, Ending, Spot, Walk};
 
 /// The longest table, in bytes.
 pub const TABLE_LIMIT: usize = 47_104;

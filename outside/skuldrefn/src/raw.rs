@@ -122,6 +122,21 @@ pub struct FlatJudgement {
     pub position: usize,
 }
 
+/// What a walk reports: how it ended, 0 to 6; the rule of a bad EPTP; the place
+/// where a ground was met; the entries read; and the record, all 0 where there
+/// is none.
+#[repr(C)]
+#[derive(Clone, Copy, Debug, PartialEq, Eq)]
+pub struct FlatWalk {
+    pub ending: u64,
+    pub rule: u64,
+    pub guest_level: u64,
+    pub ept_level: u64,
+    pub address: u64,
+    pub read: u64,
+    pub record: [u8; 22],
+}
+
 extern "C" {
     pub fn skuldrefn_step(
         context: FlatContext,
@@ -210,4 +225,14 @@ extern "C" {
         claim: *const u8,
         claim_length: usize,
     ) -> FlatJudgement;
+
+    pub fn skuldrefn_walk(
+        context: FlatContext,
+        image: *const u8,
+        image_length: usize,
+        root: u64,
+        eptp: u64,
+        vpid: u16,
+        address: u64,
+    ) -> FlatWalk;
 }

@@ -6,6 +6,7 @@ mod common;
 
 mod answers;
 mod ask_12;
+mod ask_13;
 mod ask_2;
 mod ask_5;
 mod ask_6;

@@ -1,0 +1,4 @@
+pub mod Walks
+pub mod Theorem
+pub mod Laws
+pub mod Cards
