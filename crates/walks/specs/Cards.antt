@@ -12,6 +12,7 @@ use Rattle.model.specs.Bits.{bits, bytes}
 use Rattle.model.specs.Context.{in-range}
 use Rattle.model.specs.Events.{canonical}
 use Rattle.model.specs.Answers.{first, eptp-rule}
+use Rattle.walks.specs.declared.Translation.{Translation}
 use Rattle.walks.specs.declared.Ending.the-variants.{Translated, ContextOutOfRange, BadEptp, NotCanonical, Absent, TooHigh, Outside}
 use Rattle.walks.specs.declared.Walked.{Walked}
 use Rattle.walks.specs.Walks.{Memory, memory, index, spot, ended, ept-entry, ept-from, ept-walk, translation, final-from, guest-entry, through-ept, guest-from, walk-in, combined-record, record-of, walk-of, ending-values}
@@ -116,6 +117,9 @@ translated span page frame read = ended (Translated (record { span = span; page 
 walked : List (ℕ × ℕ) → Walked
 walked xs = walk-in (of-list xs) (context 1 48) root eptp address
 
+found : Translation
+found = record { span = 1; page = 2; frame = 3; global = 1 }
+
 -- Every row holds.
 record Rows : Type 0 where
   -- 24 entries
@@ -132,7 +136,8 @@ record Rows : Type 0 where
   -- the record, of VPID 5 and PCID 1; and none
   bytes-of-record : walk-of (of-list small) (context 1 57) root eptp 5 address .«record»
       ≡ 3 ∷ 5 ∷ 0 ∷ 1 ∷ 0 ∷ 1 ∷ 0 ∷ 0x89 ∷ 0x67 ∷ 0x45 ∷ 0xF3 ∷ 6 ∷ 0xDE ∷ 0xBC ∷ 0xA ∷ 0 ∷ 0 ∷ 1 ∷ 0 ∷ 0 ∷ 0 ∷ 0 ∷ []
-  no-record : walk-of (of-list []) (context 1 48) root eptp 5 address .«record» ≡ replicate 22 0
+  no-record : map (record-of 5 1 1) (ContextOutOfRange ∷ BadEptp 5 ∷ NotCanonical ∷ Absent (spot 1 2 9) ∷ TooHigh (spot 1 2 9) ∷ Outside (spot 1 2 9) ∷ [])
+      ≡ replicate 6 (replicate 22 0)
   -- the grounds before the walk, each before the next
   out-of-range : walk-in (of-list []) (context 4096 48) root 0x101F (2 ^ 47) ≡ ended ContextOutOfRange 0
   bad-eptp : walk-in (of-list []) (context 1 57) root 0x101F (2 ^ 47) ≡ ended (BadEptp 1) 0
@@ -166,8 +171,11 @@ record Rows : Type 0 where
   present : walked ((0x1000, 0x2001) ∷ (0x2000, 0x3002) ∷ (0x3000, 0x4004) ∷ (0x40A0, 0xABCDE104) ∷ (0x23C48, 0x14001) ∷ small)
       ≡ ended (Translated (record { span = 0; page = 0x6F3456789; frame = 0xABCDE; global = 0 })) 24
   -- the endings as numbers
-  numbers : map (λ e. ending-values e .number) (Translated (record { span = 7; page = 7; frame = 7; global = 7 }) ∷ ContextOutOfRange ∷ BadEptp 5 ∷ NotCanonical ∷ [])
-      ≡ 0 ∷ 1 ∷ 2 ∷ 3 ∷ []
+  numbers : map ending-values (Translated found ∷ ContextOutOfRange ∷ NotCanonical ∷ [])
+      ≡ record { number = 0; rule = 0; «guest_level» = 0; «ept_level» = 0; address = 0 }
+      ∷ record { number = 1; rule = 0; «guest_level» = 0; «ept_level» = 0; address = 0 }
+      ∷ record { number = 3; rule = 0; «guest_level» = 0; «ept_level» = 0; address = 0 }
+      ∷ []
   rule : ending-values (BadEptp 5) ≡ record { number = 2; rule = 5; «guest_level» = 0; «ept_level» = 0; address = 0 }
   places : map ending-values (Absent (spot 1 2 9) ∷ TooHigh (spot 1 2 9) ∷ Outside (spot 1 2 9) ∷ [])
       ≡ record { number = 4; rule = 0; «guest_level» = 1; «ept_level» = 2; address = 9 }
@@ -179,7 +187,7 @@ record Rows : Type 0 where
   image-entry : memory (replicate 8 0 ++ bytes 8 0x1122334455667788) .entry 8 ≡ 0x1122334455667788
 
 cards-hold : Rows
-unfolding listed value of-list context narrow eptp root address ept-small guest-small small front guest-page directory-entry table-entry ept-page pair translated walked bytes in-range canonical first eptp-rule ept-entry ept-from ept-walk translation final-from guest-entry through-ept guest-from walk-in combined-record record-of walk-of
+unfolding found listed value of-list context narrow eptp root address ept-small guest-small small front guest-page directory-entry table-entry ept-page pair translated walked bytes in-range canonical first eptp-rule ept-entry ept-from ept-walk translation final-from guest-entry through-ept guest-from walk-in combined-record record-of walk-of
 cards-hold =
     record {
       most = refl;
