@@ -65,7 +65,7 @@ fn findings_and_traces_that_are_cut() {
     checkout.write("found.trace", &found);
     checkout.write("both.trace", &[&found[..], &[16]].concat());
     checkout.write("unknown.trace", &[&whole[..], &[7]].concat());
-    assert_eq!(checkout.sh("./skuldrefn judge < /dev/null").status, 0);
+    assert_eq!(checkout.sh("./skuldrefn judge < /dev/null").status, 2);
     let unmatched = "4 found unmatched 0 \
         linear vpid=0x5 pcid=0x1 global=0x0 span=0x0 page=0x12345 frame=0xabcde\n";
     // The trace has 5 + 20 + 38 + 5 bytes, and 17 more where A is claimed.
@@ -148,7 +148,7 @@ fn the_examples() {
             checkout.write(&file, &bytes);
         }
         let due = fs::read_to_string(traces.join(format!("{name}.expected")));
-        assert_eq!(checkout.sh("./skuldrefn judge < /dev/null").status, 0);
+        assert_eq!(checkout.sh("./skuldrefn judge < /dev/null").status, 2);
         let run = checkout.sh(&format!("./skuldrefn judge {name}.trace"));
         assert_eq!((run.status, run.out), (status, due.expect("lines")));
         let run = checkout.sh(&format!(

@@ -88,6 +88,7 @@ fn judge(trace: &mut Trace, name: &str) -> Result<(), Failure> {
         writeln!(io::stdout(), "{number} {verdict}").map_err(unwritten)?;
     };
     let not_read = match &stop {
+        Stop::End if number == 0 => Some("the trace has no events".to_owned()),
         Stop::End => None,
         Stop::Failed(error) => Some(format!("{name} cannot be read: {error}")),
         stop => {
@@ -98,9 +99,6 @@ fn judge(trace: &mut Trace, name: &str) -> Result<(), Failure> {
             ))
         }
     };
-    if number == 0 && not_read.is_none() {
-        tell("the trace has no events");
-    }
     if found > 0 {
         if let Some(why) = not_read {
             tell(&why);

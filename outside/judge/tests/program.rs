@@ -362,7 +362,7 @@ fn lengths_that_are_not_there() {
 #[test]
 fn a_trace_with_no_events() {
     let output = fed(&[], &[]);
-    assert!(output.status.success() && output.stdout.is_empty());
+    assert!(output.status.code() == Some(2) && output.stdout.is_empty());
     assert_eq!(said(&output), "judge: the trace has no events\n");
 }
 

@@ -61,7 +61,7 @@ fn image(text: &str) -> Result<Vec<u8>, String> {
         match words[..] {
             [] => {}
             ["length", word] if length.is_none() => length = Some(hexadecimal(word)? as usize),
-            ["length", ..] => return Err(format!("line {number} is a second length")),
+            ["length", _] => return Err(format!("line {number} is a second length")),
             [at, entry] => entries.push((number, hexadecimal(at)? as usize, hexadecimal(entry)?)),
             _ => return Err(wrong()),
         }
