@@ -2,7 +2,8 @@
 # check.sh LIBDIR REPLAY: the quick checks of outside/ on LIBDIR/libskuldrefn.a,
 # which `rt staticlib skuldrefn` writes, and on the replay program; and those of
 # the repository's own files. Needs cargo, rustc and cc, and no network; without
-# cargo fmt or cargo clippy those two checks are left out, and a line says so.
+# cargo fmt, cargo clippy or chromium these checks are left out, and a line says so;
+# where CI is true, chromium is installed by apt.
 # Prints little; what failed is printed whole. The last line, only if all
 # passed: 'outside: N checks passed'.
 set -u
@@ -67,6 +68,16 @@ fi
 if has clippy; then
     run 'cargo clippy' cargo clippy --offline --release --workspace --all-targets -- -D warnings
     checks=$((checks + 1))
+fi
+
+# The picture is tried in a browser; where CI is true, one that is missing is installed.
+if ! command -v chromium >/dev/null 2>&1; then
+    if [ "${CI:-}" = true ]; then
+        run 'the install of chromium' sh -c 'apt-get update &&
+            DEBIAN_FRONTEND=noninteractive apt-get install -y --no-install-recommends chromium'
+    else
+        echo 'outside: LEFT OUT: there is no chromium on this machine'
+    fi
 fi
 
 run 'cargo test' cargo test --offline --release --workspace

@@ -38,7 +38,7 @@ esac
 /// The stand-in for cargo.
 const CARGO: &str = r#"#!/bin/sh
 cd "$CHECKOUT" && echo "cargo $*" >>calls
-mkdir -p outside/target/release && (cd "$PROGRAMS" && cp convert tally widen judge walk fuzz mutants bench "$CHECKOUT/outside/target/release/")
+mkdir -p outside/target/release && (cd "$PROGRAMS" && cp convert tally widen judge walk workbench fuzz mutants bench "$CHECKOUT/outside/target/release/")
 "#;
 
 /// The checks that the gate runs after rt.
@@ -85,6 +85,7 @@ impl Checkout {
         for file in ["skuldrefn", "crates.txt"] {
             fs::copy(top().join(file), checkout.path(file)).expect("a copy");
         }
+        checkout.copy_all("outside/workbench/help");
         checkout.write("crates/model/src/lib.rt", b"// A source.\n");
         checkout.write("outside/check.sh", CHECK.as_bytes());
         for (name, text) in [("rt", RT), ("cargo", CARGO)] {
@@ -114,6 +115,16 @@ impl Checkout {
 
     pub fn write(&self, name: &str, bytes: &[u8]) {
         fs::write(self.path(name), bytes).expect("a file");
+    }
+
+    /// Copies the files of a folder of this repository.
+    fn copy_all(&self, folder: &str) {
+        fs::create_dir_all(self.path(folder)).expect("a folder");
+        for file in fs::read_dir(top().join(folder)).expect("a folder") {
+            let file = file.expect("a file");
+            let copy = self.path(folder).join(file.file_name());
+            fs::copy(file.path(), copy).expect("a copy");
+        }
     }
 
     /// The calls of rt and cargo so far.
