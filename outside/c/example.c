@@ -1,7 +1,7 @@
 /*
  * Document 01's five events as a log, which is cut into its events, one step
  * each, with a tally; a lookup, a fresh count, a conversion, a reason and two claims
- * between them. In the end a walk of page tables.
+ * between them. Then the same log in fragments, and in the end a walk of page tables.
  *
  *     cc -I outside/c outside/c/example.c target/staticlib/libskuldrefn.a
  */
@@ -132,6 +132,32 @@ int main(void)
 
     /* INVVPID took the record, and the step took it off. */
     wrong |= tally.pcids[1] != 0 || tally.kinds.rows[SKULDREFN_KIND_LINEAR - 1].spans[0] != 0;
+
+    /* The same log, as it might arrive over a serial line: ten bytes at a time. */
+    skuldrefn_context now = {
+        SKULDREFN_PROGRAM_CAPABILITY, SKULDREFN_PROGRAM_WIDTH, SKULDREFN_PROGRAM_LINEAR_WIDTH,
+        0, 0, SKULDREFN_OUTSIDE, 0, 0, 0};
+    skuldrefn_reader reader = {0};
+    memset(&fresh, 0, sizeof fresh);
+    length = 0;
+    for (size_t at = 0; at < sizeof log_bytes;) {
+        size_t left = 10 - at % 10 < sizeof log_bytes - at ? 10 - at % 10 : sizeof log_bytes - at;
+        size_t taken = 0;
+        skuldrefn_step_result step;
+        int finished = skuldrefn_take_tally(
+            &reader, now, &fresh, buffers[in_force], length, log_bytes + at, left, &taken,
+            buffers[1 - in_force], sizeof buffers[0], &step);
+        at += taken;
+        if (finished && step.answer == SKULDREFN_ACCEPTED) {
+            now = step.context;
+            length = step.length;
+            in_force = 1 - in_force;
+        }
+    }
+    skuldrefn_finished finished = skuldrefn_finish(reader, now, buffers[in_force], length);
+    printf("in fragments: %" PRIu64 " events\n", reader.line);
+    wrong |= finished.finished != 0 || reader.line != 5 || length != 0
+        || memcmp(&now, &context, sizeof now) != 0 || memcmp(&fresh, &tally, sizeof fresh) != 0;
 
     /* What may be cached of 1678h: the guest's table has page 3 there, and EPT's frame ABCDEh for it. */
     skuldrefn_walked walk = skuldrefn_walk(

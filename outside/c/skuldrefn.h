@@ -40,6 +40,9 @@ extern "C" {
 /* The longest event, in bytes. */
 #define SKULDREFN_EVENT_LIMIT 25
 
+/* The most bytes of an unfinished event that a reader holds. */
+#define SKULDREFN_HELD 24
+
 /* How many PCIDs there are, and so how many counts a tally has for them. */
 #define SKULDREFN_PCIDS 4096
 
@@ -457,6 +460,106 @@ skuldrefn_replayed skuldrefn_replay(
     uint8_t *first, size_t first_length,
     uint8_t *second, size_t second_length,
     uint8_t *rows, size_t rows_length);
+
+/*
+ * A reader of a log that arrives in fragments, as over a serial line. It is the
+ * caller's, and starts as skuldrefn_reader reader = {0}; context, table and tally
+ * stay with the caller, as with skuldrefn_step.
+ *
+ * A reader ignores: after an unknown kind, an answer 2 or 3 or a finish call, until
+ * it is reset. So does one that holds more than 24 bytes, or bytes that begin no
+ * event known at the context's linear width or complete one; no call leaves such a
+ * one. Any other numbers and bytes are fine, and those of held past its length are
+ * not looked at.
+ */
+typedef struct {
+    uint64_t line;     /* the number of the last event reported, 0 at the start; it
+                          stops at 2^64 - 1 */
+    uint64_t ignoring; /* 0 no, any other number yes */
+    uint64_t length;   /* how many bytes of an unfinished event are held, at most 24 */
+    uint8_t held[SKULDREFN_HELD];
+} skuldrefn_reader;
+
+/* What a call with a fragment reports. */
+typedef struct {
+    skuldrefn_reader reader;    /* the reader after it */
+    size_t taken;               /* how many bytes of the fragment were taken */
+    uint64_t finished;          /* 1 if an event was finished, else 0 */
+    skuldrefn_step_result step; /* what the step of that event reports, its line being
+                                   that of the reader; with finished 0 its context is
+                                   as it came and its numbers are 0 */
+    skuldrefn_kinds kinds;      /* the counts by kind and span after the call */
+} skuldrefn_taken;
+
+/*
+ * A fragment of a log, of any length, none included, cut anywhere. The call stops
+ * after the first event that it finishes, which is one step with the tally: answers,
+ * buffers and tally are as with skuldrefn_step, for the bytes held and those taken.
+ * The bytes that were not taken are to be handed in again. So the log's events are
+ * those of skuldrefn_replay, however it is cut and however long it is.
+ *
+ * Kinds are known by the context's linear width, any but 57 read as 48. An unknown
+ * kind is finished after its one byte, and answered 4, or 1 to 3 where they apply.
+ * A bad field is answered 4, and the log goes on behind it; so it does after any
+ * answer but 2 and 3.
+ *
+ * If no event is finished, all of the fragment is taken: its bytes are held behind
+ * those that were, and nothing else changes. A reader that ignores takes all of it
+ * too, and is handed back as it came. No such call writes anything.
+ */
+skuldrefn_taken skuldrefn_take(
+    skuldrefn_reader reader, skuldrefn_context context,
+    skuldrefn_kinds kinds, uint16_t *pcids, size_t pcids_length,
+    const uint8_t *table, size_t table_length,
+    const uint8_t *fragment, size_t fragment_length,
+    uint8_t *new_table, size_t new_length);
+
+/*
+ * skuldrefn_take on a reader and a tally that it changes; taken, which may not be
+ * null, becomes the number of bytes taken. Hands back whether an event was finished;
+ * if so, step is what its step reports, and else it stays.
+ */
+static inline int skuldrefn_take_tally(
+    skuldrefn_reader *reader, skuldrefn_context context, skuldrefn_tally *tally,
+    const uint8_t *table, size_t table_length,
+    const uint8_t *fragment, size_t fragment_length, size_t *taken,
+    uint8_t *new_table, size_t new_length, skuldrefn_step_result *step)
+{
+    skuldrefn_taken result = skuldrefn_take(
+        *reader, context, tally->kinds, tally->pcids, SKULDREFN_PCIDS,
+        table, table_length, fragment, fragment_length, new_table, new_length);
+    *reader = result.reader;
+    *taken = result.taken;
+    tally->kinds = result.kinds;
+    if (result.finished == 0) {
+        return 0;
+    }
+    *step = result.step;
+    return 1;
+}
+
+/* What a finish call reports. */
+typedef struct {
+    skuldrefn_reader reader; /* the reader after it */
+    uint64_t finished;       /* 1 if a cut record was reported, else 0 */
+    uint64_t answer;         /* its answer, else 0 */
+} skuldrefn_finished;
+
+/*
+ * The end of a log. Bytes that are held are a cut record, which is the next line and
+ * is answered 4, or 1 to 3 where they apply; with none held nothing is reported. The
+ * reader then ignores. One that ignores already reports nothing, and is handed back
+ * as it came. The table is only read.
+ */
+skuldrefn_finished skuldrefn_finish(
+    skuldrefn_reader reader, skuldrefn_context context,
+    const uint8_t *table, size_t table_length);
+
+/*
+ * A reader that goes on: held bytes are discarded and the ignoring ends. Its line and
+ * the bytes of held stay, and so do context, table and tally, which the caller has.
+ */
+skuldrefn_reader skuldrefn_reset_reader(skuldrefn_reader reader);
 
 /* What the converter reports. */
 typedef struct {

@@ -7,12 +7,12 @@
 // the new buffer; of a fresh count the answer and the counts. The counts are the thirty by kind and span, those of the
 // four PCIDs that the card names, and the sum of all 4,096.
 use flat_contexts::FlatContext;
+use flat_steps::FlatKinds;
+use flat_steps::FlatStep;
 use libc::STDIN_FILENO;
 use libc::STDOUT_FILENO;
 use model::Address;
-use skuldrefn::FlatKinds;
 use skuldrefn::FlatPart;
-use skuldrefn::FlatStep;
 use tally_rows::KindCounts;
 ghost use Prim.Native.Nat.{_+_, _<_, _≤_};
 ghost use lib.ListN.{length};

@@ -7,12 +7,11 @@ use mathlib.Core.Path.{_≡_, refl}
 use lib.ListN.{replicate}
 use Rattle.model.specs.declared.Context.{Context}
 use Rattle.model.specs.declared.Place.the-variants.{Root}
-use Rattle.model.specs.declared.Step.{Step}
 use Rattle.model.specs.declared.Address.the-variants.{Linear}
 use Rattle.logs.specs.declared.Replayed.{Replayed}
 use Rattle.flat_contexts.specs.declared.FlatContext.{FlatContext}
 use Rattle.flat_contexts.specs.Contexts.{is-known, flatten}
-use Rattle.skuldrefn.specs.Flat.{flat-result, flat-step, flat-written, flat-lookup, flat-explanation, flat-judgement, flat-walk, fresh, flat-replayed}
+use Rattle.skuldrefn.specs.Flat.{flat-step, flat-written, flat-lookup, flat-explanation, flat-judgement, flat-walk, fresh, flat-replayed}
 
 -- a context in root, the same as numbers, and numbers that stand for nothing
 context : Context
@@ -21,17 +20,12 @@ context = record { capability = 11; width = 12; «linear_width» = 15; pcid = 13
 numbers : ℕ → FlatContext
 numbers place = record { capability = 11; width = 12; «linear_width» = 15; pcid = 13; cpl = 14; place = place; vpid = 0; ept = 0; ep4ta = 0 }
 
--- a step with an answer, and a replay whose table is in the first buffer or in the second
-told : ℕ → Step
-told answer = record { answer = answer; rule = 4; context = context; length = 21; dropped = 22 }
-
+-- a replay whose table is in the first buffer or in the second
 replay : Bool → Replayed
 replay first = record { context = context; length = 21; count = 22; first = first }
 
 -- Every row holds.
 record Rows : Type 0 where
-  accepted : flat-result (numbers 3) (told 0) ≡ record { answer = 0; rule = 0; context = numbers 1; length = 21; dropped = 22 }
-  refused : flat-result (numbers 1) (told 8) ≡ record { answer = 8; rule = 4; context = numbers 1; length = 0; dropped = 0 }
   unknown : flat-step (numbers 3) [] (25 ∷ []) 64 ≡ record { answer = 1; rule = 0; context = numbers 3; length = 0; dropped = 0 }
   unwritten : flat-written (numbers 3) [] (25 ∷ []) (7 ∷ []) ≡ 7 ∷ []
   nowhere : flat-lookup (numbers 3) (Linear 0) [] 0 ≡ record { answer = 1; start = 0; length = 0 }
@@ -45,11 +39,9 @@ record Rows : Type 0 where
       ≡ record { capability = 11; width = 12; «linear_width» = 15; pcid = 0; cpl = 0; place = 0; vpid = 0; ept = 0; ep4ta = 0 }
 
 cards-hold : Rows
-unfolding context numbers told replay is-known flatten flat-step flat-written flat-lookup flat-explanation flat-judgement flat-walk flat-replayed
+unfolding context numbers replay is-known flatten flat-step flat-written flat-lookup flat-explanation flat-judgement flat-walk flat-replayed
 cards-hold =
     record {
-      accepted = refl;
-      refused = refl;
       unknown = refl;
       unwritten = refl;
       nowhere = refl;

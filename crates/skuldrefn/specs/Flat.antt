@@ -3,11 +3,9 @@ use Prim.Native.Nat.{ℕ, _≤_}
 use mathlib.Core.Bool.{cond}
 use mathlib.Core.List.{List}
 use mathlib.Core.Path.{_≡_}
-use lib.Dec.{eqb}
 use lib.ListN.{length, replicate}
 use Rattle.model.specs.declared.Context.{Context}
 use Rattle.model.specs.declared.Place.the-variants.{Outside}
-use Rattle.model.specs.declared.Step.{Step}
 use Rattle.model.specs.declared.Address.{Address}
 use Rattle.model.specs.Steps.{stepped, written}
 use Rattle.model.specs.Lookups.{lookup-answer, lookup, lookup-start}
@@ -22,8 +20,9 @@ use Rattle.walks.specs.declared.Ending.the-variants.{ContextOutOfRange}
 use Rattle.walks.specs.Walks.{memory, ending-values, walk-of}
 use Rattle.flat_contexts.specs.declared.FlatContext.{FlatContext}
 use Rattle.flat_contexts.specs.Contexts.{is-known, unflatten, flatten}
-use Rattle.skuldrefn.specs.declared.FlatStep.{FlatStep}
-use Rattle.skuldrefn.specs.declared.FlatKinds.{FlatKinds}
+use Rattle.flat_steps.specs.declared.FlatStep.{FlatStep}
+use Rattle.flat_steps.specs.declared.FlatKinds.{FlatKinds}
+use Rattle.flat_steps.specs.Steps.{refused, flat-result}
 use Rattle.skuldrefn.specs.declared.FlatCountedStep.{FlatCountedStep}
 use Rattle.skuldrefn.specs.declared.FlatCounts.{FlatCounts}
 use Rattle.skuldrefn.specs.declared.FlatPart.{FlatPart}
@@ -33,17 +32,6 @@ use Rattle.skuldrefn.specs.declared.FlatWalk.{FlatWalk}
 use Rattle.model.specs.Tables.{limit}
 use Rattle.logs.specs.declared.Replayed.{Replayed}
 use Rattle.logs.specs.Replays.{Replays, ByTheBook}
-
--- a refusal hands back the context as it came
-abbrev pub refused : ℕ → ℕ → FlatContext → FlatStep
-refused answer rule c = record { answer = answer; rule = rule; context = c; length = 0; dropped = 0 }
-
--- a step's result
-abbrev pub flat-result : FlatContext → Step → FlatStep
-flat-result c s =
-    cond (eqb (s .answer) 0)
-    (record { answer = 0; rule = 0; context = flatten (s .context); length = s .length; dropped = s .dropped })
-    (refused (s .answer) (s .rule) c)
 
 -- a step: answer 1 where a number stands for nothing
 unfoldable pub flat-step : FlatContext → List ℕ → List ℕ → ℕ → FlatStep

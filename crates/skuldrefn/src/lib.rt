@@ -2,11 +2,14 @@
 // is handed in as numbers; a place or EPT number that stands for nothing is answered 1.
 use claims::Judgement;
 use flat_contexts::FlatContext;
+use flat_fragments::FlatFinished;
+use flat_fragments::FlatReader;
+use flat_fragments::FlatTaken;
+use flat_steps::FlatKinds;
+use flat_steps::FlatStep;
 use model::Address;
 use model::Context;
 use model::Place;
-use model::Step;
-use tally_rows::KindCounts;
 use walks::Ending;
 use widening::Widened;
 ghost use mathlib.Core.Path.{_≡_};
@@ -14,56 +17,9 @@ ghost use lib.ListN.{length};
 ghost use Rattle.widening.specs.Widening.{widening, widening-written};
 ghost use Rattle.logs.specs.Logs.{told-length};
 ghost use Rattle.tables.specs.Counts.{table-pcid-counts};
-ghost use Rattle.skuldrefn.specs.Flat.{refused, flat-result, flat-step, flat-written, flat-counted-step, flat-counted-pcids, flat-counted-written, flat-counts, flat-lookup, flat-explanation, flat-judgement, flat-walk, fresh, FlatReplays};
+ghost use Rattle.skuldrefn.specs.Flat.{flat-step, flat-written, flat-counted-step, flat-counted-pcids, flat-counted-written, flat-counts, flat-lookup, flat-explanation, flat-judgement, flat-walk, fresh, FlatReplays};
 ghost use mathlib.Core.Bool.{cond};
-
-// What a step reports.
-#[repr(C)]
-pub struct FlatStep {
-    pub answer: u64,
-    pub rule: u64,
-    pub context: FlatContext,
-    pub length: usize,
-    pub dropped: usize,
-}
-
-// What a refused step reports: the context as it came, 0 and 0.
-fn refused(answer: u64, rule: u64, context: FlatContext) -> FlatStep
-    ensures { λ r. ⌜ r ≡ refused answer rule context ⌝ }
-{
-    FlatStep {
-        answer,
-        rule,
-        context,
-        length: 0,
-        dropped: 0,
-    }
-}
-
-// A step's result, with the context as numbers.
-fn flat_step(context: FlatContext, s: Step) -> FlatStep
-    ensures { λ r. ⌜ r ≡ flat-result context s ⌝ }
-{
-    if s.answer != 0 {
-        return refused(s.answer, s.rule, context);
-    }
-    let after = s.context;
-    let flat = flat_contexts::flat_context(after);
-    FlatStep {
-        answer: 0,
-        rule: 0,
-        context: flat,
-        length: s.length,
-        dropped: s.dropped,
-    }
-}
-
-// The counts of a tally by kind and span: a row for each of kinds 1 to 6; kinds 7, 8, 9 and 10 are counted in the rows
-// of 1, 3, 4 and 6.
-#[repr(C)]
-pub struct FlatKinds {
-    pub rows: [KindCounts; 6],
-}
+ghost use Rattle.flat_fragments.specs.Flat.{flat-taken, flat-taken-pcids, flat-taken-written, flat-finished, flat-emptied};
 
 // What a step beside a tally reports.
 #[repr(C)]
@@ -91,7 +47,7 @@ pub extern "C" fn skuldrefn_step(
 {
     if !flat_contexts::is_known(context) {
         return FlatCountedStep {
-            step: refused(1, 0, context),
+            step: flat_steps::refused(1, 0, context),
             kinds,
         };
     }
@@ -106,7 +62,7 @@ pub extern "C" fn skuldrefn_step(
     );
     let after = counted.kinds;
     FlatCountedStep {
-        step: flat_step(context, counted.step),
+        step: flat_steps::flat_step(context, counted.step),
         kinds: FlatKinds { rows: after },
     }
 }
@@ -123,9 +79,9 @@ pub extern "C" fn skuldrefn_plain_step(
     ensures { λ _. ⌜ now (new .exit) ≡ flat-written context (now (table .entry)) (now (event .entry)) (now (new .entry)) ⌝ }
 {
     if !flat_contexts::is_known(context) {
-        return refused(1, 0, context);
+        return flat_steps::refused(1, 0, context);
     }
-    flat_step(
+    flat_steps::flat_step(
         context,
         steps::step(flat_contexts::context_of(context), table, event, new),
     )
@@ -369,4 +325,46 @@ pub extern "C" fn skuldrefn_replay(
         first: number_of(r.first),
         count: r.count,
     }
+}
+
+// Takes a fragment of a log up to the end of the first event that it finishes, and tells how many bytes it took. The event is
+// one step beside the tally, as of skuldrefn_step; the kinds are those of the context's linear width. Where no event is
+// finished, finished is 0, the step's numbers are 0, and its context and the counts are as they came. A reader that ignores
+// takes the whole fragment and is handed back as it came.
+#[no_mangle]
+pub extern "C" fn skuldrefn_take(
+    reader: FlatReader,
+    context: FlatContext,
+    kinds: FlatKinds,
+    pcids: &mut [u16],
+    table: &[u8],
+    fragment: &[u8],
+    new: &mut [u8],
+) -> FlatTaken
+    ensures { λ r. ⌜ r ≡ flat-taken reader context kinds (now (pcids .entry)) (now (table .entry)) (now (fragment .entry)) (length (now (new .entry))) ⌝ }
+    ensures { λ _. ⌜ now (pcids .exit) ≡ flat-taken-pcids reader context kinds (now (pcids .entry)) (now (table .entry)) (now (fragment .entry)) (length (now (new .entry))) ⌝ }
+    ensures { λ _. ⌜ now (new .exit) ≡ flat-taken-written reader context kinds (now (pcids .entry)) (now (table .entry)) (now (fragment .entry)) (now (new .entry)) ⌝ }
+{
+    flat_fragments::take(reader, context, kinds, pcids, table, fragment, new)
+}
+
+// Ends a log that came in fragments: bytes that are held are reported as a cut record, with answer 1, 2 or 3, else 4. The
+// reader ignores all later fragments and finish calls.
+#[no_mangle]
+pub extern "C" fn skuldrefn_finish(
+    reader: FlatReader,
+    context: FlatContext,
+    table: &[u8],
+) -> FlatFinished
+    ensures { λ r. ⌜ r ≡ flat-finished reader context (now (table .entry)) ⌝ }
+{
+    flat_fragments::finish(reader, context, table)
+}
+
+// A reset of the reader: it holds nothing and does not ignore. The line number stays.
+#[no_mangle]
+pub extern "C" fn skuldrefn_reset_reader(reader: FlatReader) -> FlatReader
+    ensures { λ r. ⌜ r ≡ flat-emptied reader ⌝ }
+{
+    flat_fragments::reset(reader)
 }

@@ -3,6 +3,7 @@
 //! types of a context, an address, a tally and a result are used, none of its
 //! rules.
 
+mod stream;
 mod tally;
 
 use model::{Address, Context, Place, Reason};
@@ -11,6 +12,7 @@ pub use skuldrefn::{
     FlatReason, FlatReplayed, FlatStep, FlatWalk, Part,
 };
 use std::ops::Range;
+pub use stream::{finish, reset_reader, take_lent, Finished, Taken};
 pub use tally::{count, count_lent, counted_step_lent, step_flat};
 
 /// A context of the model as numbers; fields that its place lacks are 0.

@@ -6,14 +6,14 @@ use skuldrefn::{raw, Row};
 use std::mem::take;
 
 /// The model's rows as the library has them.
-fn of_model(kinds: &Kinds) -> skuldrefn::Kinds {
+pub(crate) fn of_model(kinds: &Kinds) -> skuldrefn::Kinds {
     skuldrefn::Kinds {
         rows: kinds.map(|spans| Row { spans }),
     }
 }
 
 /// The library's rows as the model has them.
-fn of_library(kinds: &skuldrefn::Kinds) -> Kinds {
+pub(crate) fn of_library(kinds: &skuldrefn::Kinds) -> Kinds {
     kinds.rows.map(|row| row.spans)
 }
 

@@ -3,7 +3,7 @@
 use common::{KINDS, LINEAR_WIDTHS};
 use model::{LinearWidth, Reason};
 use skuldrefn::raw::{Counted, CountedStep, FlatWalk};
-use skuldrefn::FlatJudgement;
+use skuldrefn::{FlatFinished, FlatJudgement, FlatTaken, Reader};
 use std::env::temp_dir;
 use std::fs;
 use std::mem::{offset_of, size_of};
@@ -21,6 +21,7 @@ at 57 bits: 18 bytes
 INVVPID: takes the record
 a table that keeps it: unmatched at byte 0
 5 0 1 0
+in fragments: 5 events
 walk: ending 0, 24 entries read
 ";
 
@@ -223,6 +224,104 @@ fn claims_in_c() {
     assert_eq!(printed.lines().collect::<Vec<_>>(), due);
     let size = size_of::<FlatJudgement>();
     assert_eq!((size, offset_of!(FlatJudgement, position)), (32, 24));
+}
+
+/// Takes a log in fragments and prints each event, then what a finish call and
+/// readers that ignore report; then the sizes.
+const READERS: &str = r#"
+#include "skuldrefn.h"
+#include <stdio.h>
+#include <string.h>
+
+/* VMXON, an INVLPG, an unknown kind and a reset. */
+static const uint8_t log_bytes[12] = {22, 18, 0, 16, 0, 0, 0, 0, 0, 0, 255, 25};
+static uint8_t table[17];
+
+static void say(const skuldrefn_reader *reader)
+{
+    printf("line %d, ignoring %d, held %d\n", (int)reader->line, (int)reader->ignoring,
+        (int)reader->length);
+}
+
+int main(void)
+{
+    skuldrefn_context context = {
+        SKULDREFN_PROGRAM_CAPABILITY, SKULDREFN_PROGRAM_WIDTH, SKULDREFN_PROGRAM_LINEAR_WIDTH,
+        0, 0, SKULDREFN_OUTSIDE, 0, 0, 0};
+    static const size_t lengths[6] = {3, 2, 0, 12, 12, 12};
+    skuldrefn_tally tally = {0};
+    skuldrefn_reader reader = {0};
+    skuldrefn_step_result step = {0};
+    skuldrefn_finished end;
+    size_t at = 0, taken = 0;
+
+    for (int i = 0; i < 6; i++) {
+        size_t length = sizeof log_bytes - at < lengths[i] ? sizeof log_bytes - at : lengths[i];
+        int finished = skuldrefn_take_tally(&reader, context, &tally, NULL, 0, log_bytes + at,
+            length, &taken, table, 17, &step);
+        printf("%d of %d taken, %d, answer %d; ", (int)taken, (int)length, finished, (int)step.answer);
+        say(&reader);
+        at += taken;
+    }
+    end = skuldrefn_finish(reader, context, NULL, 0);
+    printf("%d %d, %d\n", (int)end.finished, (int)end.answer,
+        memcmp(&end.reader, &reader, sizeof reader));
+    reader = skuldrefn_reset_reader(reader);
+    say(&reader);
+    skuldrefn_take_tally(&reader, context, &tally, NULL, 0, log_bytes + 1, 8, &taken, table, 17, &step);
+    say(&reader);
+    end = skuldrefn_finish(reader, context, NULL, 0);
+    printf("%d %d; ", (int)end.finished, (int)end.answer);
+    say(&end.reader);
+    /* A width that is none, a table that is none, and nothing held. */
+    context.width = 35;
+    printf("%d ", (int)skuldrefn_finish(reader, context, NULL, 0).answer);
+    context.width = 52;
+    printf("%d ", (int)skuldrefn_finish(reader, context, log_bytes, 12).answer);
+    reader.length = 0;
+    printf("%d\n", (int)skuldrefn_finish(reader, context, NULL, 0).finished);
+    printf("%zu %zu %zu %zu %zu %zu\n", sizeof(skuldrefn_reader), sizeof(skuldrefn_taken),
+        offsetof(skuldrefn_taken, step), offsetof(skuldrefn_taken, kinds),
+        sizeof(skuldrefn_finished), offsetof(skuldrefn_finished, answer));
+    return 0;
+}
+"#;
+
+#[test]
+fn readers_in_c() {
+    let source = Temporary::new("readers.c");
+    fs::write(&source.0, READERS).expect("a file");
+    let Some(printed) = printed("readers", &source.0) else {
+        return;
+    };
+    let (calls, sizes) = printed.trim_end().rsplit_once('\n').expect("lines");
+    let due = [
+        "1 of 3 taken, 1, answer 0; line 1, ignoring 0, held 0",
+        "2 of 2 taken, 0, answer 0; line 1, ignoring 0, held 2",
+        "0 of 0 taken, 0, answer 0; line 1, ignoring 0, held 2",
+        "7 of 9 taken, 1, answer 0; line 2, ignoring 0, held 0",
+        "1 of 2 taken, 1, answer 4; line 3, ignoring 1, held 0",
+        // Ignored, and so is the finish call.
+        "1 of 1 taken, 0, answer 4; line 3, ignoring 1, held 0",
+        "0 0, 0",
+        "line 3, ignoring 0, held 0",
+        // All of an INVLPG but its last byte.
+        "line 3, ignoring 0, held 8",
+        "1 4; line 4, ignoring 1, held 0",
+        "1 3 0",
+    ];
+    assert_eq!(calls.lines().collect::<Vec<_>>(), due);
+    let due = [
+        size_of::<Reader>(),
+        size_of::<FlatTaken>(),
+        offset_of!(FlatTaken, step),
+        offset_of!(FlatTaken, kinds),
+        size_of::<FlatFinished>(),
+        offset_of!(FlatFinished, answer),
+    ];
+    assert_eq!(sizes, due.map(|size| size.to_string()).join(" "));
+    let held = "#define SKULDREFN_HELD 24";
+    assert!(header().lines().any(|line| line == held));
 }
 
 #[test]

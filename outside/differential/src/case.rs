@@ -8,6 +8,8 @@ use crate::reached::Reached;
 use crate::replay::ReplayCase;
 use crate::run::RunCase;
 use crate::step::StepCase;
+use crate::stream::StreamCase;
+use crate::take::TakeCase;
 use crate::walk::WalkCase;
 use crate::widen::WidenCase;
 use model::LinearWidth;
@@ -24,6 +26,8 @@ pub enum Case {
     Claim(ClaimCase),
     Run(RunCase),
     Replay(ReplayCase),
+    Take(TakeCase),
+    Stream(StreamCase),
     Widen(WidenCase),
     Walk(WalkCase),
 }
@@ -46,6 +50,8 @@ impl Case {
             Case::Claim(case) => case.check(reached),
             Case::Run(case) => case.check(reached),
             Case::Replay(case) => case.check(reached),
+            Case::Take(case) => case.check(reached),
+            Case::Stream(case) => case.check(reached),
             Case::Widen(case) => case.check(reached),
             Case::Walk(case) => case.check(reached),
         }
@@ -72,6 +78,8 @@ impl Case {
             Case::Claim(case) => case.smaller().into_iter().map(Case::Claim).collect(),
             Case::Run(case) => case.smaller().into_iter().map(Case::Run).collect(),
             Case::Replay(case) => case.smaller().into_iter().map(Case::Replay).collect(),
+            Case::Take(case) => case.smaller().into_iter().map(Case::Take).collect(),
+            Case::Stream(case) => case.smaller().into_iter().map(Case::Stream).collect(),
             Case::Widen(case) => case.smaller().into_iter().map(Case::Widen).collect(),
             Case::Walk(case) => case.smaller().into_iter().map(Case::Walk).collect(),
         }
@@ -88,6 +96,8 @@ impl fmt::Display for Case {
             Case::Claim(case) => case.fmt(f),
             Case::Run(case) => case.fmt(f),
             Case::Replay(case) => case.fmt(f),
+            Case::Take(case) => case.fmt(f),
+            Case::Stream(case) => case.fmt(f),
             Case::Widen(case) => case.fmt(f),
             Case::Walk(case) => case.fmt(f),
         }
@@ -114,11 +124,12 @@ impl Failure {
 }
 
 /// The parts that may be taken out of so many things: halves, quarters and
-/// so on, down to single ones.
+/// so on, down to single ones; of many things no smaller parts than some hundredth,
+/// since each is a copy of all the others.
 pub fn parts(count: usize) -> Vec<std::ops::Range<usize>> {
     let mut parts = Vec::new();
     let mut size = count;
-    while size > 0 {
+    while size > count / 128 {
         for start in (0..count).step_by(size) {
             parts.push(start..count.min(start + size));
         }

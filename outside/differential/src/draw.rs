@@ -9,6 +9,8 @@ use crate::lookup::LookupCase;
 use crate::replay::{starts, ReplayCase};
 use crate::run::{Moment, RunCase};
 use crate::step::StepCase;
+use crate::stream::{Call, StreamCase};
+use crate::take::TakeCase;
 use crate::walk::WalkCase;
 use crate::widen::WidenCase;
 use bridge::FlatContext;
@@ -263,6 +265,66 @@ fn replay_of(rng: &mut Rng, start: &Context, log: Vec<u8>) -> ReplayCase {
         second: buffer(rng, second),
         rows: buffer(rng, rows),
         log,
+    }
+}
+
+/// A call of a reader with a fragment.
+pub fn take(rng: &mut Rng) -> TakeCase {
+    let drawn = generate::taking(rng);
+    TakeCase {
+        reader: drawn.reader,
+        context: any_flat(rng, &drawn.case.context),
+        tally: drawn.case.tally,
+        table: drawn.case.table,
+        fragment: drawn.fragment,
+        new: buffer(rng, drawn.case.new.len()),
+    }
+}
+
+/// A log of at most so many bytes in fragments, and its end; in one of two there
+/// are resets and ends between them, and fragments behind the last.
+pub fn stream(rng: &mut Rng, most: usize) -> StreamCase {
+    let whole = replay(rng, most);
+    stream_of(rng, whole)
+}
+
+/// The same of a log that fills the table.
+pub fn filling_stream(rng: &mut Rng) -> StreamCase {
+    let whole = filling_replay(rng);
+    stream_of(rng, whole)
+}
+
+fn stream_of(rng: &mut Rng, whole: ReplayCase) -> StreamCase {
+    let fragments = generate::fragments(rng, &whole.log);
+    let mut calls: Vec<Call> = fragments
+        .into_iter()
+        .map(|fragment| Call::Fragment(fragment.to_vec()))
+        .collect();
+    let mut line = 0;
+    if rng.one_in(2) {
+        let any = rng.number();
+        line = rng.pick(&[0, any, u64::MAX - 3]);
+        for _ in 0..rng.below(6) {
+            let at = rng.below(calls.len() + 1);
+            let call = rng.pick(&[true, true, false]);
+            calls.insert(at, if call { Call::Reset } else { Call::Finish });
+        }
+        let more = generate::log(rng, whole.linear_width, 60);
+        calls.push(Call::Finish);
+        calls.push(Call::Fragment(more.clone()));
+        calls.push(Call::Finish);
+        calls.push(Call::Reset);
+        calls.push(Call::Fragment(more));
+    }
+    calls.push(Call::Finish);
+    StreamCase {
+        capability: whole.capability,
+        width: whole.width,
+        linear_width: whole.linear_width,
+        line,
+        first: whole.first,
+        second: whole.second,
+        calls,
     }
 }
 

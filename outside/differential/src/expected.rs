@@ -1,10 +1,11 @@
 //! What the model says, in the library's form.
 
 use crate::walk::WalkCase;
-use bridge::{FlatContext, FlatReason, FlatReplayed, FlatStep, Part};
+use bridge::{Finished, FlatContext, FlatReason, FlatReplayed, FlatStep, Part, Taken};
 use common::{write_row, ROW, TABLE_LIMIT};
 use model::event::Event;
 use model::reason::has_scope;
+use model::stream::{self, Reader};
 use model::walk::{walk_with_spans, Ending};
 use model::{Address, Context, Judgement, LinearWidth, Reason, Step, Tally, Walk, PCIDS};
 use std::mem::swap;
@@ -51,6 +52,73 @@ fn on_flat(context: &FlatContext, step: impl FnOnce(&Context) -> Step) -> FlatSt
         context: bridge::flat(&step.context),
         length: step.length,
         dropped: step.dropped,
+    }
+}
+
+/// The context that the numbers stand for; where the place or the EPT number stands
+/// for nothing, one out of range with the same linear width.
+fn readable(context: &FlatContext) -> Context {
+    let FlatContext {
+        capability,
+        width,
+        linear_width,
+        ..
+    } = *context;
+    let out_of_range = Context {
+        cpl: 4,
+        ..Context::after_reset(capability, width, linear_width)
+    };
+    bridge::context(context).unwrap_or(out_of_range)
+}
+
+/// Whether a reader counts as ignoring.
+pub fn ignores(reader: &Reader, context: &FlatContext) -> bool {
+    reader.ignores(readable(context).linear())
+}
+
+/// Whether the next event is of an unknown kind.
+pub fn is_unknown(reader: &Reader, context: &FlatContext, fragment: &[u8]) -> bool {
+    let width = readable(context).linear();
+    let unknown = |kind: &u8| model::event::length(width, *kind).is_none();
+    reader.length == 0 && fragment.first().is_some_and(unknown)
+}
+
+/// A fragment of a log.
+pub fn take(
+    reader: &Reader,
+    context: &FlatContext,
+    tally: &mut Tally,
+    table: &[u8],
+    fragment: &[u8],
+    new: &mut [u8],
+) -> Taken {
+    let known = readable(context);
+    let taken = stream::take(reader, &known, tally, table, fragment, new);
+    let nothing = FlatStep {
+        answer: 0,
+        rule: 0,
+        context: *context,
+        length: 0,
+        dropped: 0,
+    };
+    Taken {
+        reader: taken.reader,
+        taken: taken.taken,
+        finished: u64::from(taken.finished.is_some()),
+        step: taken
+            .finished
+            .map_or(nothing, |step| on_flat(context, |_| step)),
+        kinds: tally.kinds,
+    }
+}
+
+/// The end of a log.
+pub fn finish(reader: &Reader, context: &FlatContext, table: &[u8]) -> Finished {
+    let finished = stream::finish(reader, &readable(context), table);
+    Finished {
+        reader: finished.reader,
+        finished: u64::from(finished.answer.is_some()),
+        answer: finished.answer.unwrap_or(0),
     }
 }
 

@@ -9,10 +9,13 @@ use crate::lookup::LookupCase;
 use crate::replay::ReplayCase;
 use crate::run::{Moment, RunCase};
 use crate::step::StepCase;
+use crate::stream::{Call, StreamCase};
+use crate::take::TakeCase;
 use crate::walk::WalkCase;
 use crate::widen::WidenCase;
 use bridge::FlatContext;
 use generate::SparseTally;
+use model::stream::Reader;
 use model::{Address, Kinds};
 
 /// Reads a case back. Lines before the one that starts with `case` are
@@ -30,6 +33,8 @@ pub fn parse(text: &str) -> Result<Case, String> {
         "claim" => lines.claim().map(Case::Claim),
         "run" => lines.run().map(Case::Run),
         "replay" => lines.replay().map(Case::Replay),
+        "take" => lines.take_case().map(Case::Take),
+        "stream" => lines.stream().map(Case::Stream),
         "widen" => lines.widen().map(Case::Widen),
         "walk" => lines.walk().map(Case::Walk),
         other => Err(format!("no case '{other}'")),
@@ -257,6 +262,57 @@ impl<'a> Lines<'a> {
             first: self.buffer("first")?,
             second: self.buffer("second")?,
             rows: self.buffer("rows")?,
+        })
+    }
+
+    fn reader(&mut self) -> Result<Reader, String> {
+        let [line, ignoring, length] = self.numbers("reader")?;
+        let held = self.bytes("held")?;
+        let count = held.len();
+        Ok(Reader {
+            line,
+            ignoring,
+            length,
+            held: held
+                .try_into()
+                .map_err(|_| format!("held: {count} bytes and not 24"))?,
+        })
+    }
+
+    fn take_case(&mut self) -> Result<TakeCase, String> {
+        Ok(TakeCase {
+            reader: self.reader()?,
+            context: self.context()?,
+            tally: self.tally()?,
+            table: self.bytes("table")?,
+            fragment: self.bytes("fragment")?,
+            new: self.buffer("new")?,
+        })
+    }
+
+    fn stream(&mut self) -> Result<StreamCase, String> {
+        let [capability, width, linear_width] = self.numbers("start")?;
+        let [line] = self.numbers("line")?;
+        let first = self.buffer("first")?;
+        let second = self.buffer("second")?;
+        let mut calls = Vec::new();
+        loop {
+            calls.push(match self.peek() {
+                Some(("fragment", _)) => Call::Fragment(self.bytes("fragment")?),
+                Some(("finish", _)) => self.take("finish").map(|_| Call::Finish)?,
+                Some(("reset", _)) => self.take("reset").map(|_| Call::Reset)?,
+                _ => break,
+            });
+        }
+        self.take("end")?;
+        Ok(StreamCase {
+            capability,
+            width,
+            linear_width,
+            line,
+            first,
+            second,
+            calls,
         })
     }
 

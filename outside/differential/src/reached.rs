@@ -1,6 +1,8 @@
 //! How often what was reached.
 
 use crate::walk::number;
+use bridge::{Finished, Taken};
+use model::stream::Reader;
 use model::walk::{Ending, Spot};
 use model::Walk;
 use std::fmt;
@@ -15,6 +17,99 @@ pub struct Reached {
     pub walks: Walks,
     pub runs: u64,
     pub replays: u64,
+    /// Logs in fragments.
+    pub streams: u64,
+}
+
+/// Counts of the calls of a reader.
+#[derive(Clone, Debug, Default)]
+pub struct Streams {
+    /// Events that were finished, by their answer.
+    pub takes: [u64; 14],
+    /// Unknown kinds by their answer, 1 to 4; they are among the events.
+    pub unknown: [u64; 5],
+    /// Fragments that finished no event: held, with some bytes or none, and ignored.
+    pub held: u64,
+    pub none: u64,
+    pub ignored: u64,
+    /// Of the fragments ignored, those of a reader without the flag: with too many
+    /// bytes, and with bytes that begin no event or complete one.
+    pub too_many: u64,
+    pub no_beginning: u64,
+    /// Events by how many of their bytes were held before.
+    pub before: [u64; 25],
+    /// Cut records by their answer, 1 to 4; finish calls that reported nothing, and
+    /// those that were ignored.
+    pub cut: [u64; 5],
+    pub not_cut: u64,
+    pub finish_ignored: u64,
+    /// Events at the last line number.
+    pub last_line: u64,
+}
+
+impl Streams {
+    /// A call with a fragment, with the reader before it, and whether its event is of
+    /// an unknown kind.
+    pub fn take(&mut self, before: &Reader, unknown: bool, got: &Taken, ignored: bool) {
+        if ignored {
+            self.ignored += 1;
+            if before.ignoring == 0 {
+                self.too_many += u64::from(before.length > 24);
+                self.no_beginning += u64::from(before.length <= 24);
+            }
+        } else if got.finished == 0 {
+            self.held += u64::from(got.taken > 0);
+            self.none += u64::from(got.taken == 0);
+        } else {
+            let answer = got.step.answer;
+            self.takes[answer as usize] += 1;
+            self.before[before.length as usize] += 1;
+            if unknown {
+                self.unknown[answer as usize] += 1;
+            }
+            self.last_line += u64::from(before.line == u64::MAX);
+        }
+    }
+
+    /// A finish call.
+    pub fn finish(&mut self, got: &Finished, ignored: bool) {
+        match (ignored, got.finished) {
+            (true, _) => self.finish_ignored += 1,
+            (false, 0) => self.not_cut += 1,
+            _ => self.cut[got.answer as usize] += 1,
+        }
+    }
+
+    /// The calls.
+    fn calls(&self) -> u64 {
+        let events: u64 = self.takes.iter().chain(&self.cut).sum();
+        events + self.held + self.none + self.ignored + self.not_cut + self.finish_ignored
+    }
+}
+
+impl fmt::Display for Streams {
+    fn fmt(&self, f: &mut fmt::Formatter) -> fmt::Result {
+        writeln!(
+            f,
+            "unknown kinds in fragments: {}; cut records at a finish: {}; nothing cut {}, \
+             ignored {}",
+            numbered(&self.unknown),
+            numbered(&self.cut),
+            self.not_cut,
+            self.finish_ignored
+        )?;
+        writeln!(
+            f,
+            "fragments held {}, empty {}, ignored {} ({} with too many bytes held, {} with such \
+             as begin nothing or are whole); {} events at the last line",
+            self.held, self.none, self.ignored, self.too_many, self.no_beginning, self.last_line
+        )?;
+        write!(
+            f,
+            "events by the bytes held before: {}",
+            numbered(&self.before)
+        )
+    }
 }
 
 /// Counts of walks at all linear widths.
@@ -56,6 +151,7 @@ pub struct Counts {
     pub run_steps: [u64; 14],
     /// Fresh counts by their answer.
     pub counts: [u64; 14],
+    pub streams: Streams,
     /// Rows of replays by their answer.
     pub rows: [u64; 13],
     /// Lookups by their answer.
@@ -164,7 +260,7 @@ impl Counts {
             &self.claims,
             &self.walks,
         ];
-        all.into_iter().flatten().sum()
+        all.into_iter().flatten().sum::<u64>() + self.streams.calls()
     }
 }
 
@@ -172,25 +268,27 @@ impl fmt::Display for Counts {
     fn fmt(&self, f: &mut fmt::Formatter) -> fmt::Result {
         writeln!(
             f,
-            "{:<8}{:>12}{:>12}{:>12}{:>12}{:>12}{:>12}{:>12}{:>12}",
+            "{:<8}{:>12}{:>12}{:>12}{:>12}{:>12}{:>12}{:>12}{:>12}{:>12}",
             "answer",
             "plain steps",
             "counted",
             "in runs",
             "counts",
             "in replays",
+            "fragments",
             "in reasons",
             "of claims",
             "lookups"
         )?;
         for answer in 0..14 {
             write!(f, "{answer:<8}")?;
-            let columns: [&[u64]; 8] = [
+            let columns: [&[u64]; 9] = [
                 &self.steps,
                 &self.counted,
                 &self.run_steps,
                 &self.counts,
                 &self.rows,
+                &self.streams.takes,
                 &self.refusals,
                 &self.claim_answers,
                 &self.lookups,
@@ -207,6 +305,7 @@ impl fmt::Display for Counts {
         writeln!(f, "accepted by kind: {}", numbered(&self.accepted))?;
         writeln!(f, "reasons: {}", numbered(&self.reasons))?;
         writeln!(f, "walks by ending: {}", numbered(&self.walks))?;
+        writeln!(f, "{}", self.streams)?;
         writeln!(
             f,
             "EPTP rules: {}; in reasons: {}; of claims: {}",
@@ -238,7 +337,11 @@ impl fmt::Display for Reached {
         writeln!(f, "other linear widths: {} answers", self.widths[2].calls())?;
         writeln!(f, "conversions by answer: {}", numbered(&self.widened))?;
         writeln!(f, "{}", self.walks)?;
-        writeln!(f, "{} runs, {} replays", self.runs, self.replays)?;
+        writeln!(
+            f,
+            "{} runs, {} replays, {} logs in fragments",
+            self.runs, self.replays, self.streams
+        )?;
         write!(f, "{} answers compared", self.calls())
     }
 }

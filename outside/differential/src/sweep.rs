@@ -8,6 +8,8 @@ use crate::explain::ExplainCase;
 use crate::lookup::LookupCase;
 use crate::replay::ReplayCase;
 use crate::step::StepCase;
+use crate::stream::{Call, StreamCase};
+use crate::take::TakeCase;
 use crate::walk::WalkCase;
 use crate::widen::WidenCase;
 use bridge::FlatContext;
@@ -430,6 +432,65 @@ pub fn cut_logs(rng: &mut Rng) -> Vec<ReplayCase> {
         rows: buffer(rng, ROW * cut),
     };
     (0..=log.len()).map(with).collect()
+}
+
+/// A log with an event of every kind, cut in two after each of its bytes, ended
+/// after each of them, and a byte at a time.
+pub fn cut_streams(rng: &mut Rng) -> Vec<StreamCase> {
+    let linear_width = rng.pick(&LINEAR_WIDTHS);
+    let log = generate::log_of_every_kind(rng, linear_width);
+    let room = rng.pick(&[0, 30, 400, TABLE_LIMIT]);
+    let mut with = |fragments: Vec<&[u8]>| {
+        let fragments = fragments.into_iter();
+        let calls = fragments.map(|fragment| Call::Fragment(fragment.to_vec()));
+        StreamCase {
+            capability: PROGRAM_CAPABILITY,
+            width: PROGRAM_WIDTH,
+            linear_width,
+            line: 0,
+            first: buffer(rng, room),
+            second: buffer(rng, room),
+            calls: calls.chain([Call::Finish]).collect(),
+        }
+    };
+    let mut cases = vec![with(log.chunks(1).collect())];
+    for cut in 0..=log.len() {
+        cases.push(with(vec![&log[..cut], &log[cut..]]));
+        cases.push(with(vec![&log[..cut]]));
+    }
+    cases
+}
+
+/// One step's inputs with every reader that holds up to 26 bytes of each kind, and a
+/// fragment that is empty, short or long.
+pub fn near_readers(rng: &mut Rng) -> Vec<TakeCase> {
+    let case = draw::take(rng);
+    let own = bridge::context(&case.context);
+    let own = own.unwrap_or_else(|| generate::context(rng));
+    let mut cases = Vec::new();
+    for reader in generate::readers(rng, &own) {
+        let count = rng.pick(&[0, 1, 24, 30]);
+        cases.push(TakeCase {
+            reader,
+            fragment: rng.bytes(count),
+            ..case.clone()
+        });
+    }
+    cases
+}
+
+/// One call of a reader in every context one field away from its own, and those
+/// that stand for nothing.
+pub fn near_takes(rng: &mut Rng) -> Vec<TakeCase> {
+    let case = draw::take(rng);
+    let own = bridge::context(&case.context);
+    let own = own.unwrap_or_else(|| generate::context(rng));
+    let mut cases = Vec::new();
+    for context in contexts_near(rng, &own) {
+        let case = case.clone();
+        cases.push(TakeCase { context, ..case });
+    }
+    cases
 }
 
 /// A context for records of 48 bits.

@@ -6,6 +6,7 @@ use crate::buffer::Buffer;
 use bridge::FlatContext;
 use common::hex;
 use generate::{image_entries, SparseTally};
+use model::stream::Reader;
 use model::Address;
 
 /// A line of bytes.
@@ -38,6 +39,14 @@ pub fn context(c: &FlatContext) -> String {
 /// A buffer as a line.
 pub fn buffer(name: &str, buffer: &Buffer) -> String {
     numbers(name, &[buffer.length as u64, buffer.fill])
+}
+
+/// A reader as two lines: its line, its ignoring and the length held; then all bytes
+/// that it has room for.
+pub fn reader(reader: &Reader) -> String {
+    let fields = [reader.line, reader.ignoring, reader.length];
+    let fields = numbers("reader", &fields);
+    format!("{fields}\n{}", bytes("held", &reader.held))
 }
 
 /// An image as a line: its length, and each entry in it that is not 0, its

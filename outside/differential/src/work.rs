@@ -103,6 +103,24 @@ pub fn replays(rng: &mut Rng, reached: &mut Reached) -> Result<(), Failure> {
     all(sweep::cut_logs(rng), Case::Replay, reached)
 }
 
+/// Calls of a reader, and logs in fragments.
+pub fn streams(rng: &mut Rng, reached: &mut Reached) -> Result<(), Failure> {
+    for _ in 0..120 {
+        Case::Take(draw::take(rng)).compare(reached)?;
+    }
+    for _ in 0..10 {
+        Case::Stream(draw::stream(rng, 1_500)).compare(reached)?;
+    }
+    if rng.one_in(4) {
+        all(sweep::near_readers(rng), Case::Take, reached)?;
+        all(sweep::near_takes(rng), Case::Take, reached)?;
+    }
+    if rng.one_in(16) {
+        all(sweep::cut_streams(rng), Case::Stream, reached)?;
+    }
+    Ok(())
+}
+
 /// Conversions, random and at the bounds.
 pub fn widenings(rng: &mut Rng, reached: &mut Reached) -> Result<(), Failure> {
     for _ in 0..50 {
@@ -124,19 +142,19 @@ pub fn walks(rng: &mut Rng, reached: &mut Reached) -> Result<(), Failure> {
     Ok(())
 }
 
-/// A run or a replay that fills the table.
+/// A run, a replay or a log in fragments that fills the table.
 fn filling(rng: &mut Rng, reached: &mut Reached) -> Result<(), Failure> {
-    if rng.one_in(2) {
-        Case::Run(draw::filling_run(rng)).compare(reached)
-    } else {
-        Case::Replay(draw::filling_replay(rng)).compare(reached)
+    match rng.below(3) {
+        0 => Case::Run(draw::filling_run(rng)).compare(reached),
+        1 => Case::Replay(draw::filling_replay(rng)).compare(reached),
+        _ => Case::Stream(draw::filling_stream(rng)).compare(reached),
     }
 }
 
 /// The work of one round.
-const ROUND: [Work; 13] = [
+const ROUND: [Work; 14] = [
     steps, near_steps, tallies, lookups, claims, steps, runs, replays, steps, lookups, explains,
-    widenings, walks,
+    widenings, walks, streams,
 ];
 
 /// Once in so many rounds a table is filled.

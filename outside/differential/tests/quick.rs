@@ -195,6 +195,64 @@ fn replays_of_logs() {
     }
 }
 
+/// Every answer of an event in fragments, every count of bytes held before it, and
+/// readers that ignore for every cause.
+#[test]
+fn fragments_of_every_answer() {
+    let reached = compare(160, work::streams);
+    assert!(reached.streams > 1_600);
+    for (_, counts) in reached.both() {
+        let streams = &counts.streams;
+        for (answer, count) in streams.takes.iter().enumerate() {
+            assert!(*count > 100, "answer {answer}: {count}");
+        }
+        for (held, count) in streams.before.iter().enumerate() {
+            assert!(*count > 10, "{held} held: {count}");
+        }
+        for answer in 1..=4 {
+            assert!(streams.unknown[answer] > 10, "answer {answer}");
+            assert!(streams.cut[answer] > 100, "answer {answer}");
+        }
+        assert!(streams.held > 1_000 && streams.none > 500);
+        assert!(streams.too_many > 200 && streams.no_beginning > 200);
+        assert!(streams.ignored > 2_000 && streams.finish_ignored > 1_000);
+        assert!(streams.not_cut > 1_000 && streams.last_line > 500);
+    }
+}
+
+/// A log with every kind of event, cut after each of its bytes.
+#[test]
+fn logs_cut_anywhere() {
+    let mut rng = Rng::new(SEED);
+    let mut reached = Reached::default();
+    for _ in 0..12 {
+        for case in sweep::cut_streams(&mut rng) {
+            passed(Case::Stream(case).compare(&mut reached));
+        }
+    }
+    println!("{reached}");
+    for (_, counts) in reached.both() {
+        assert!(counts.streams.takes[0] > 1_000 && counts.streams.takes[12] > 100);
+        assert!(counts.streams.cut[4] > 500);
+    }
+}
+
+/// Logs that fill the table, in fragments.
+#[test]
+fn fragments_that_fill_the_table() {
+    let mut rng = Rng::new(SEED);
+    let mut reached = Reached::default();
+    for _ in 0..4 {
+        passed(Case::Stream(draw::filling_stream(&mut rng)).compare(&mut reached));
+    }
+    let filled: u64 = reached
+        .both()
+        .map(|(_, counts)| counts.streams.takes[12])
+        .iter()
+        .sum();
+    assert!(filled > 0);
+}
+
 #[test]
 fn runs_that_fill_the_table() {
     let mut rng = Rng::new(SEED);

@@ -16,6 +16,8 @@ fn cases() -> Vec<Case> {
         cases.push(Case::Claim(draw::claim(&mut rng)));
         cases.push(Case::Run(draw::run(&mut rng, 30)));
         cases.push(Case::Replay(draw::replay(&mut rng, 300)));
+        cases.push(Case::Take(draw::take(&mut rng)));
+        cases.push(Case::Stream(draw::stream(&mut rng, 300)));
         cases.push(Case::Widen(draw::widen(&mut rng)));
         cases.push(Case::Walk(draw::walk(&mut rng)));
     }
@@ -102,7 +104,7 @@ fn fuzz(words: &[&str], input: &str) -> Output {
 
 #[test]
 fn the_program_compares_a_case_again() {
-    for case in cases().iter().take(18) {
+    for case in cases().iter().take(22) {
         let output = fuzz(&["--case", "-"], &case.to_string());
         assert_eq!(output.status.code(), Some(0));
         assert_eq!(output.stdout, b"no difference\n");

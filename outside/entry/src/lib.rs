@@ -38,7 +38,7 @@ esac
 /// The stand-in for cargo.
 const CARGO: &str = r#"#!/bin/sh
 cd "$CHECKOUT" && echo "cargo $*" >>calls
-mkdir -p outside/target/release && (cd "$PROGRAMS" && cp convert tally widen judge walk workbench fuzz mutants bench "$CHECKOUT/outside/target/release/")
+mkdir -p outside/target/release && (cd "$PROGRAMS" && cp convert tally widen judge stream walk workbench fuzz mutants bench "$CHECKOUT/outside/target/release/")
 "#;
 
 /// The checks that the gate runs after rt.

@@ -116,6 +116,7 @@ fn tools_that_are_missing() {
         ("tally three.log", "rt"),
         ("widen a.table", "rt"),
         ("judge three.log", "rt"),
+        ("stream three.log", "rt"),
         ("test", "rt"),
     ] {
         let run = checkout.sh(&format!("PATH=$CHECKOUT/few ./skuldrefn {command}"));

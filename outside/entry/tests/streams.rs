@@ -105,6 +105,8 @@ fn closed_descriptors() {
         "widen",
         "judge",
         "judge --make",
+        "stream",
+        "stream -",
     ] {
         let run = checkout.sh(&format!("./skuldrefn {command} <&-"));
         assert_eq!((run.status, &run.said[..]), (2, closed), "{command}");
@@ -120,6 +122,7 @@ fn closed_descriptors() {
         "tally three.log",
         "widen a.table",
         "judge three.log",
+        "stream three.log",
         "help",
         "library",
         "fuzz",
@@ -172,6 +175,7 @@ fn the_other_programs() {
         "widen a.table",
         "judge three.log",
         "judge --make three.log",
+        "stream three.log",
         "help",
         "help bench",
         "library",

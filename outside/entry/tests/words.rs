@@ -2,13 +2,14 @@
 
 use entry::{Checkout, THREE};
 
-const COMMANDS: [&str; 12] = [
+const COMMANDS: [&str; 13] = [
     "replay",
     "assemble",
     "disassemble",
     "tally",
     "widen",
     "judge",
+    "stream",
     "walk",
     "library",
     "test",
@@ -83,6 +84,17 @@ fn words_that_are_not_taken() {
         "judge --make /",
         "judge /",
         "judge ''",
+        "stream nofile.log",
+        "stream --all",
+        "stream --linear-width",
+        "stream --linear-width 56",
+        "stream --linear-width three.log",
+        "stream --linear-width 57 --linear-width 57",
+        "stream three.log --linear-width 57",
+        "stream three.log three.log",
+        "stream three.log --help",
+        "stream /",
+        "stream ''",
         "walk",
         "walk --",
         "walk -",
@@ -174,6 +186,7 @@ fn options_after_the_file() {
         ),
         ("judge three.log --make", "options go before the file"),
         ("judge - --linear-width 57", "options go before the file"),
+        ("stream - --linear-width 57", "options go before the file"),
     ] {
         let run = checkout.sh(&format!("./skuldrefn {words}"));
         let command = words.split(' ').next().expect("a command");
@@ -191,6 +204,7 @@ fn help_after_options() {
         ("disassemble", "--linear-width 57"),
         ("judge", "--make"),
         ("judge", "--linear-width 57 --make"),
+        ("stream", "--linear-width 57"),
     ] {
         let due = checkout.sh(&format!("./skuldrefn help {command}"));
         for word in ["-h", "--help"] {
@@ -219,8 +233,9 @@ fn help_of_replay() {
 fn logs_that_cannot_be_read() {
     let checkout = Checkout::built();
     assert_eq!(checkout.sh("./skuldrefn tally three.log").status, 0);
+    assert_eq!(checkout.sh("./skuldrefn stream three.log").status, 0);
     for (words, status) in [("nofile.log", 2), ("/", 2), ("< /", 1), ("- < /", 1)] {
-        for command in ["replay", "tally"] {
+        for command in ["replay", "tally", "stream"] {
             let run = checkout.sh(&format!("./skuldrefn {command} {words}"));
             assert_eq!(
                 (run.status, &run.out[..]),

@@ -14,6 +14,7 @@
 //! * [`case`], [`query`], [`explain`], [`widening`], [`walk()`]: inputs of one step,
 //!   of one lookup, of one explanation, of one conversion and of one walk.
 //! * [`claim()`]: a claimed table after a step.
+//! * [`taking`], [`reader`], [`fragments`]: logs in fragments, and readers of them.
 //! * [`start`], [`events`], [`log`], [`filling_log`]: whole runs and logs.
 //! * [`context`], [`table`], [`event`], [`address`] and so on: the parts.
 //! * [`tally()`], [`near_tallies`]: the tallies to hand in with a table.
@@ -34,6 +35,7 @@ mod query;
 mod record;
 mod rng;
 mod run;
+mod stream;
 mod table;
 mod tally;
 mod walk;
@@ -52,6 +54,7 @@ pub use query::{query, Query};
 pub use record::other_width;
 pub use rng::Rng;
 pub use run::{events, filling_log, log, start};
+pub use stream::{damage_reader, fragments, log_of_every_kind, reader, readers, taking, Taking};
 pub use table::{any_table, full_table, removal, table};
 pub use tally::{near_tallies, tally, wrong_tally, SparseTally};
 pub use walk::{image_entries, walk, Walk};

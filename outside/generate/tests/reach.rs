@@ -4,9 +4,12 @@
 use common::{canonical, field, is_mapping_kind, kinds, sizes};
 use common::{KINDS, LINEAR_WIDTHS, LOG_LIMIT, PCIDS};
 use generate::{case, events, explain, filling_log, log, near_events, near_tallies, other_width};
-use generate::{query, table_of_result, walk, widening, Rng, SparseTally, BAD_LINEAR_WIDTHS};
-use model::event::Event;
+use generate::{fragments, log_of_every_kind, query, table_of_result, taking, walk, widening};
+use generate::{Rng, SparseTally, Taking, BAD_LINEAR_WIDTHS};
+use model::event::{length, Event};
 use model::mapping::{records, Mapping};
+use model::replay::first_event;
+use model::stream::take;
 use model::walk::{walk_with_spans, Ending};
 use model::LinearWidth::{self, Bits48, Bits57};
 use model::{count, counted_step, lookup, step, widen, Tally, TABLE_LIMIT};
@@ -61,6 +64,111 @@ fn every_answer_is_reached() {
         assert!(reached.dropping >= 500);
         for answer in [8, 10] {
             assert!(reached.rules[answer].iter().all(|count| *count >= 20));
+        }
+    }
+}
+
+/// What calls of a reader reach at one linear width.
+#[derive(Debug, Default)]
+struct Takings {
+    answers: [usize; 14],
+    held_before: [usize; 25],
+    unknown: usize,
+    held: usize,
+    ignored: usize,
+    last_line: usize,
+}
+
+#[test]
+fn fragments_of_every_sort() {
+    println!("seed {SEED}");
+    let mut rng = Rng::new(SEED);
+    let mut both = [Takings::default(), Takings::default()];
+    for _ in 0..30_000 {
+        let Taking {
+            mut case,
+            reader,
+            fragment,
+        } = taking(&mut rng);
+        let Some(place) = place(case.context.linear_width) else {
+            continue;
+        };
+        let width = case.context.linear();
+        let reached = &mut both[place];
+        let mut tally = case.tally.tally();
+        let (context, table) = (&case.context, &case.table);
+        let taken = take(
+            &reader,
+            context,
+            &mut tally,
+            table,
+            &fragment,
+            &mut case.new,
+        );
+        if reader.ignores(width) {
+            reached.ignored += 1;
+        } else if let Some(step) = taken.finished {
+            reached.answers[step.answer as usize] += 1;
+            reached.held_before[reader.length as usize] += 1;
+            let kind = if reader.length == 0 {
+                fragment[0]
+            } else {
+                reader.held[0]
+            };
+            reached.unknown += usize::from(length(width, kind).is_none());
+            reached.last_line += usize::from(reader.line == u64::MAX);
+        } else {
+            reached.held += 1;
+        }
+    }
+    for (width, reached) in LINEAR_WIDTHS.iter().zip(both) {
+        println!("{width} bits: {reached:?}");
+        assert!(reached.answers.iter().all(|count| *count >= 100));
+        assert!(reached.held_before.iter().all(|count| *count >= 20));
+        assert!(reached.unknown >= 100 && reached.held >= 500);
+        assert!(reached.ignored >= 1_000 && reached.last_line >= 500);
+    }
+}
+
+/// Fragments end to end are the log, and of every size.
+#[test]
+fn fragments_are_the_log() {
+    let mut rng = Rng::new(SEED);
+    let mut sizes = [0; 4];
+    for _ in 0..200 {
+        let log = log(&mut rng, 48, 300);
+        let fragments = fragments(&mut rng, &log);
+        assert_eq!(fragments.concat(), log);
+        for fragment in fragments {
+            sizes[fragment.len().min(27) / 9] += 1;
+        }
+    }
+    assert!(sizes.iter().all(|count| *count > 100), "{sizes:?}");
+}
+
+/// A log with each kind that is known once, and all of them are accepted.
+#[test]
+fn a_log_of_every_kind() {
+    let mut rng = Rng::new(SEED);
+    for linear_width in LINEAR_WIDTHS {
+        for _ in 0..50 {
+            let log = log_of_every_kind(&mut rng, linear_width);
+            let start = model::Context {
+                linear_width,
+                ..model::Context::program()
+            };
+            let lines = model::replay::lines(&start, &log);
+            assert!(lines.iter().all(|line| line.answer == 0), "{lines:?}");
+            let mut found = Vec::new();
+            let mut rest = &log[..];
+            while let Some(event) = first_event(start.linear(), rest) {
+                found.push(event[0]);
+                rest = &rest[event.len()..];
+            }
+            found.sort_unstable();
+            let mut due = kinds(linear_width);
+            due.sort_unstable();
+            assert_eq!(found, due);
         }
     }
 }

@@ -16,6 +16,7 @@
 //! * [`tally`]: the tally beside the table (Ask 7).
 //! * [`widen()`]: a stored 48-bit table at 57 bits (Ask 12).
 //! * [`claim`]: another simulator's table judged (Ask 8).
+//! * [`stream`]: a log as it arrives, in fragments (Ask 3).
 //! * [`walk()`]: a guest's tables walked through EPT (Ask 13).
 //! * [`book`]: a whole run judged from its events alone.
 //! * [`tuned`]: the same steps and converter, written for speed.
@@ -33,6 +34,7 @@ pub mod reason;
 pub mod replay;
 pub mod scope;
 pub mod step;
+pub mod stream;
 pub mod tally;
 pub mod tuned;
 pub mod walk;

@@ -2,11 +2,12 @@
 //! carried on against a fresh count, on random inputs. A failure prints the seed
 //! and the case.
 
-use generate::{case, events, filling_log, hex, log, query, removal, start, Rng};
+use generate::{case, events, filling_log, fragments, hex, log, query, removal, start, Rng};
 use model::book::Book;
 use model::event::Event;
 use model::mapping::records;
 use model::replay::lines;
+use model::stream::{finish, take, Reader};
 use model::tally::carried;
 use model::{count, counted_step, lookup, replay, step, tuned, usable, widen};
 use model::{Address, Context, Line, Tally, TABLE_LIMIT};
@@ -365,4 +366,60 @@ fn converters() {
     for answer in [0, 2, 3, 12] {
         assert!(reached[answer] > 500, "answer {answer}");
     }
+}
+
+/// Logs in fragments, through two buffers as long as those of a whole replay: the
+/// same lines, table and context, and the tally is a fresh count after each event.
+#[test]
+fn fragments_of_logs() {
+    println!("seed {SEED}");
+    let mut rng = Rng::new(SEED);
+    let mut events = 0;
+    for number in 0..600 {
+        let start = start(&mut rng);
+        let log = match number % 10 {
+            0 => rng.bytes(40),
+            1 => generate::events(&mut rng, start.linear_width, 40).concat(),
+            _ => log(&mut rng, start.linear_width, 1_500),
+        };
+        let (mut reader, mut tally) = (Reader::new(), Tally::empty());
+        let (mut context, mut table) = (start, Vec::new());
+        let mut got = Vec::new();
+        for fragment in fragments(&mut rng, &log) {
+            let mut rest = fragment;
+            loop {
+                let mut new = vec![0; TABLE_LIMIT];
+                let taken = take(&reader, &context, &mut tally, &table, rest, &mut new);
+                assert!(taken.taken <= rest.len() && taken.reader.length <= 24);
+                reader = taken.reader;
+                rest = &rest[taken.taken..];
+                if let Some(step) = taken.finished {
+                    if step.answer == 0 {
+                        context = step.context;
+                        table = new[..step.length].to_vec();
+                    }
+                    assert_eq!(count(context.linear(), &table).as_ref(), Ok(&tally));
+                    got.push(Line {
+                        number: reader.line,
+                        answer: step.answer,
+                        dropped: step.dropped,
+                        length: table.len(),
+                    });
+                }
+                if rest.is_empty() {
+                    break;
+                }
+            }
+        }
+        let end = finish(&reader, &context, &table);
+        got.extend(end.answer.map(|answer| Line {
+            number: end.reader.line,
+            answer,
+            dropped: 0,
+            length: table.len(),
+        }));
+        assert_eq!(got, lines(&start, &log), "seed {SEED}, log {number}");
+        events += got.len();
+    }
+    assert!(events > 20_000, "{events} events");
 }

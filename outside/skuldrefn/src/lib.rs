@@ -47,6 +47,8 @@
 //! A context has a linear width, 48 or 57 bits. [`widen`] makes a table of the
 //! second sort from a stored one of the first.
 //!
+//! A log need not be there whole: a [`Reader`] takes it in fragments, cut anywhere.
+//!
 //! [`judge`] says of another simulator's table whether an event may leave it, and
 //! [`walk`] what a guest's page tables and EPT let the processor cache.
 
@@ -55,6 +57,7 @@ mod context;
 mod logs;
 pub mod raw;
 mod reason;
+mod stream;
 mod tally;
 mod walk;
 
@@ -62,11 +65,12 @@ pub use claim::{judge, judge_flat, Judgement};
 pub use context::{Context, Place};
 pub use logs::{event_length, events, lines, replay, replay_flat, Line, Replay};
 pub use raw::{
-    FlatContext, FlatJudgement, FlatReason, FlatReplayed, FlatStep, FlatWalk, Kinds, Part, Row,
-    Widened,
+    FlatContext, FlatFinished, FlatJudgement, FlatReason, FlatReplayed, FlatStep, FlatTaken,
+    FlatWalk, Kinds, Part, Reader, Row, Widened,
 };
 pub use reason::Reason;
 use std::ops::Range;
+pub use stream::Taken;
 pub use tally::{count, step, step_flat, Tally};
 pub use walk::{walk, walk_flat, Ending, Spot, Walk};
 

@@ -122,6 +122,41 @@ pub struct FlatJudgement {
     pub position: usize,
 }
 
+/// A reader of a log that arrives in fragments. `line` is the number of the last
+/// event reported; `ignoring` is 0 for no, any other number for yes; `length` bytes
+/// of an unfinished event, at most 24, are held at the front of `held`.
+#[repr(C)]
+#[derive(Clone, Copy, Debug, Default, PartialEq, Eq)]
+pub struct Reader {
+    pub line: u64,
+    pub ignoring: u64,
+    pub length: u64,
+    pub held: [u8; 24],
+}
+
+/// What a call with a fragment reports: the reader after it, the bytes taken, 1 if an
+/// event was finished, and what its step reports. With `finished` 0 the numbers of
+/// the step are 0, and context and kinds as they came.
+#[repr(C)]
+#[derive(Clone, Copy, Debug, PartialEq, Eq)]
+pub struct FlatTaken {
+    pub reader: Reader,
+    pub taken: usize,
+    pub finished: u64,
+    pub step: FlatStep,
+    pub kinds: Kinds,
+}
+
+/// What a finish call reports: the reader after it, 1 if a cut record was reported,
+/// and its answer, else 0.
+#[repr(C)]
+#[derive(Clone, Copy, Debug, PartialEq, Eq)]
+pub struct FlatFinished {
+    pub reader: Reader,
+    pub finished: u64,
+    pub answer: u64,
+}
+
 /// What a walk reports: how it ended, 0 to 6; the rule of a bad EPTP; the place
 /// where a ground was met; the entries read; and the record, all 0 where there
 /// is none.
@@ -225,6 +260,29 @@ extern "C" {
         claim: *const u8,
         claim_length: usize,
     ) -> FlatJudgement;
+
+    pub fn skuldrefn_take(
+        reader: Reader,
+        context: FlatContext,
+        kinds: Kinds,
+        pcids: *mut u16,
+        pcids_length: usize,
+        table: *const u8,
+        table_length: usize,
+        fragment: *const u8,
+        fragment_length: usize,
+        new_table: *mut u8,
+        new_length: usize,
+    ) -> FlatTaken;
+
+    pub fn skuldrefn_finish(
+        reader: Reader,
+        context: FlatContext,
+        table: *const u8,
+        table_length: usize,
+    ) -> FlatFinished;
+
+    pub fn skuldrefn_reset_reader(reader: Reader) -> Reader;
 
     pub fn skuldrefn_walk(
         context: FlatContext,

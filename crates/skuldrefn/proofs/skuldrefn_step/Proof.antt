@@ -3,7 +3,8 @@ use borrow.Author.Needs.{needs}
 use borrow.Author.Tests.{not-true, not-false}
 use mathlib.Core.Path.{_∙_, sym, ap, refl}
 use Rattle.counted_steps.specs.declared.CountedStep.{CountedStep}
-use Rattle.skuldrefn.specs.Flat.{flat-result, flat-counted-step, flat-counted-pcids, flat-counted-written}
+use Rattle.flat_steps.specs.Steps.{flat-result}
+use Rattle.skuldrefn.specs.Flat.{flat-counted-step, flat-counted-pcids, flat-counted-written}
 use Rattle.skuldrefn.proofs.skuldrefn_step.Statement.{statement}
 use Rattle.skuldrefn.proofs.skuldrefn_step.Tie as tie
 

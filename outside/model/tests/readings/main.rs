@@ -8,6 +8,7 @@ mod answers;
 mod ask_12;
 mod ask_13;
 mod ask_2;
+mod ask_3;
 mod ask_5;
 mod ask_6;
 mod ask_7;

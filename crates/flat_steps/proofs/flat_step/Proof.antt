@@ -2,8 +2,8 @@
 use borrow.Author.Needs.{needs}
 use borrow.Author.Tests.{ne-eqb}
 use mathlib.Core.Path.{_∙_}
-use Rattle.skuldrefn.proofs.flat_step.Statement.{statement}
-use Rattle.skuldrefn.proofs.flat_step.Tie as tie
+use Rattle.flat_steps.proofs.flat_step.Statement.{statement}
+use Rattle.flat_steps.proofs.flat_step.Tie as tie
 
 returns : tie.Need-returns
 returns c = c .refused .ensures ∙ rw (ne-eqb _ 0 (c .before .if1 .taken))

@@ -1,0 +1,2 @@
+-- Laws of a log in fragments: one call.
+pub mod Calls

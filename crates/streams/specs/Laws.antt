@@ -1,0 +1,5 @@
+-- Laws of a log in fragments: one call, that the cuts do not matter, what is ignored, and that all is as of the whole log.
+pub mod Calls
+pub mod Cuts
+pub mod Ignored
+pub mod Whole
