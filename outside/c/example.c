@@ -1,7 +1,8 @@
 /*
  * Document 01's five events as a log, which is cut into its events, one step
  * each, with a tally; a lookup, a fresh count, a conversion, a reason and two claims
- * between them. Then the same log in fragments, and in the end a walk of page tables.
+ * between them. Then the same log in fragments, two levels of TLB, and in the end a
+ * walk of page tables.
  *
  *     cc -I outside/c outside/c/example.c target/staticlib/libskuldrefn.a
  */
@@ -158,6 +159,24 @@ int main(void)
     printf("in fragments: %" PRIu64 " events\n", reader.line);
     wrong |= finished.finished != 0 || reader.line != 5 || length != 0
         || memcmp(&now, &context, sizeof now) != 0 || memcmp(&fresh, &tally, sizeof fresh) != 0;
+
+    /* Two levels: VPID 5's translation is created in both, and the small one drops it. */
+    static uint8_t small[17];
+    static skuldrefn_tally small_tally = {0};
+    skuldrefn_context guest = now;
+    guest.place = SKULDREFN_GUEST;
+    guest.vpid = 5;
+    guest.pcid = 1;
+    skuldrefn_level_step both = skuldrefn_step_levels(
+        guest, created, created_length,
+        small_tally.kinds, small_tally.pcids, SKULDREFN_PCIDS, NULL, 0, small, sizeof small,
+        fresh.kinds, fresh.pcids, SKULDREFN_PCIDS, NULL, 0, wide, sizeof wide);
+    skuldrefn_level_part part = skuldrefn_lookup_levels(
+        guest, small, 0, wide, both.second.length, UINT64_C(0x12345678));
+    int in_second = both.answer == SKULDREFN_ACCEPTED && both.first.length == sizeof small
+        && part.level == 2 && part.length == created_length;
+    printf("two levels: the record is %s\n", in_second ? "in the second alone" : "not found");
+    wrong |= !in_second;
 
     /* What may be cached of 1678h: the guest's table has page 3 there, and EPT's frame ABCDEh for it. */
     skuldrefn_walked walk = skuldrefn_walk(

@@ -10,10 +10,11 @@
  * nothing: no pointer, no copy, no state. Nothing is allocated. So calls from
  * several threads do not disturb each other if their buffers do not.
  *
- * Buffers that are written (new_table, pcids, first, second, rows) may overlap
- * no other buffer of the same call. A pointer may be null if its length is 0.
- * Any other pointer must be good for its length. Bytes need no alignment;
- * pcids is aligned as uint16_t is, and its length is the number of counts.
+ * Buffers that are written (new_table, pcids, second_new, second_pcids, and first,
+ * second and rows of skuldrefn_replay) may overlap no other buffer of the same
+ * call. A pointer may be null if its length is 0. Any other pointer must be good
+ * for its length. Bytes need no alignment; pcids is aligned as uint16_t is, and its
+ * length is the number of counts.
  *
  * Every other input is answered: any number in any field or count, any bytes in
  * a table, a record, an event, a log or an image, and any length of a buffer.
@@ -372,6 +373,72 @@ skuldrefn_part skuldrefn_lookup_guest_physical(
     skuldrefn_context context,
     const uint8_t *table, size_t table_length,
     uint64_t address, uint64_t k);
+
+/*
+ * Two levels of TLB: a small first-level table before the large one. Each has its own
+ * table, tally and new buffer.
+ */
+
+/* What a step of both levels reports of one. */
+typedef struct {
+    size_t length;         /* its new table's length in bytes */
+    size_t dropped;        /* how many of its records went */
+    skuldrefn_kinds kinds; /* its counts by kind and span after the event */
+} skuldrefn_level;
+
+typedef struct {
+    uint64_t answer;           /* the first table's, or the second's where that is 0 */
+    uint64_t rule;             /* as in skuldrefn_counted_step, of the table whose
+                                  answer is given */
+    skuldrefn_context context; /* the context after the event */
+    skuldrefn_level first;
+    skuldrefn_level second;
+} skuldrefn_level_step;
+
+/*
+ * One event on a context and two tables, each as with skuldrefn_step. A creation goes
+ * into both, and room is judged for each against its own buffer.
+ *
+ * With answer 0 each new table is in its buffer, its tally in its kinds and pcids, and
+ * the context is the one after the event. If either table's step would be refused,
+ * nothing is written to either, context and both kinds are handed back as they came,
+ * and all lengths and dropped counts are 0. The answer is not the lower of the two:
+ * where the first would be answered 12 and the second 3, it is 12.
+ *
+ * event, event_length: the event, for both; it is only read.
+ * kinds .. new_length: the first table, as with skuldrefn_step; second_kinds ..
+ * second_new_length: the second. The four buffers that are written overlap no other.
+ */
+skuldrefn_level_step skuldrefn_step_levels(
+    skuldrefn_context context,
+    const uint8_t *event, size_t event_length,
+    skuldrefn_kinds kinds, uint16_t *pcids, size_t pcids_length,
+    const uint8_t *table, size_t table_length,
+    uint8_t *new_table, size_t new_length,
+    skuldrefn_kinds second_kinds, uint16_t *second_pcids, size_t second_pcids_length,
+    const uint8_t *second_table, size_t second_table_length,
+    uint8_t *second_new, size_t second_new_length);
+
+/* What a lookup in both levels reports. */
+typedef struct {
+    uint64_t answer; /* 0 to 3: the first table's, or the second's where that is 0 */
+    uint64_t level;  /* 1 or 2: the table that has the translation; 0 if none has */
+    size_t start;    /* where the record starts in that table */
+    size_t length;   /* its length in bytes with its kind byte */
+} skuldrefn_level_part;
+
+/*
+ * The first translation (kind 1 or 3, at linear width 57 kind 7 or 8) that is usable
+ * at a linear address: from the first table if it has one, else from the second.
+ * Structure caches are passed over. level, start and length are 0 if there is none or
+ * the answer is not 0; a second table that is refused is one such, though the first
+ * may have a translation. Both tables are only read.
+ */
+skuldrefn_level_part skuldrefn_lookup_levels(
+    skuldrefn_context context,
+    const uint8_t *first, size_t first_length,
+    const uint8_t *second, size_t second_length,
+    uint64_t address);
 
 /*
  * The reasons. The first that holds is given; each counts only where the event

@@ -28,7 +28,7 @@ module _ (r : FlatReader) (c : FlatContext) (kinds : FlatKinds) (pcids t x b : L
 
   -- any event
   refused-out : (e : List ℕ)
-      → (counted-stepped (as-read c) (kinds .rows) pcids t e (length b) ≡ counted-refusal 1 (as-read c) (kinds .rows))
+      → (counted-stepped (as-read c) (kinds .rows) pcids t e (length b) ≡ counted-refusal 1 0 (as-read c) (kinds .rows))
       × ((counted-pcids (as-read c) (kinds .rows) pcids t e (length b) ≡ pcids) × (counted-written (as-read c) (kinds .rows) pcids t e b ≡ b))
   refused-out e =
       let one = counted-of-table (as-read c) (kinds .rows) pcids t e (length b) {n = 1} (sym (table-grounds-out-of-range (as-read c) t out)) (λ z. omega arith) in
@@ -42,7 +42,7 @@ module _ (r : FlatReader) (c : FlatContext) (kinds : FlatKinds) (pcids t x b : L
   unfolding flat-taken flat-taken-pcids flat-taken-written taken-of taken-pcids taken-written flat-told
   unknown-taken = go (finishes (as-read c .«linear_width») (reader-of r) x) refl
     where
-      all : (counted-stepped (as-read c) (kinds .rows) pcids t (event-taken (as-read c .«linear_width») (reader-of r) x) (length b) ≡ counted-refusal 1 (as-read c) (kinds .rows))
+      all : (counted-stepped (as-read c) (kinds .rows) pcids t (event-taken (as-read c .«linear_width») (reader-of r) x) (length b) ≡ counted-refusal 1 0 (as-read c) (kinds .rows))
           × ((counted-pcids (as-read c) (kinds .rows) pcids t (event-taken (as-read c .«linear_width») (reader-of r) x) (length b) ≡ pcids)
           × (counted-written (as-read c) (kinds .rows) pcids t (event-taken (as-read c .«linear_width») (reader-of r) x) b ≡ b))
       all = refused-out (event-taken (as-read c .«linear_width») (reader-of r) x)

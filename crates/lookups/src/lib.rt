@@ -4,13 +4,14 @@ use model::Context;
 use model::Ept;
 ghost use mathlib.Core.Path.{_≡_};
 ghost use lib.ListN.{length};
-ghost use mathlib.Core.Bool.{true};
-ghost use Prim.Native.Nat.{_+_};
+ghost use mathlib.Core.Bool.{Bool, true};
+ghost use Prim.Native.Nat.{ℕ, _+_};
 ghost use Rattle.model.specs.Mappings.{mapping, Held};
 ghost use Rattle.model.specs.Tables.{whole};
 ghost use Rattle.model.specs.declared.Address.the-variants.{Linear, GuestPhysical};
-ghost use Rattle.model.specs.Lookups.{lookup-answer, lookup, lookup-start};
-ghost use Rattle.lookups.specs.Search.{kinds-with, of-kind-and-vpid, of-pcid-and-ep4ta, seeks, AsksForUsable, Searched};
+ghost use Rattle.model.specs.declared.Mapping.{Mapping};
+ghost use Rattle.model.specs.Lookups.{usable, lookup-answer, lookup, lookup-start};
+ghost use Rattle.lookups.specs.Search.{kinds-with, of-kind-and-vpid, of-pcid-and-ep4ta, seeks, AsksFor, usable-of, Sets, Searched};
 
 // Sets of kinds, bit k for kind k.
 const LINEAR: u64 = 0x292;
@@ -20,7 +21,7 @@ const COMBINED: u64 = 0x548;
 const GUEST_PHYSICAL: u64 = 0x24;
 
 // What a lookup asks of each record. A field that the kind does not have is 0.
-struct Sought {
+pub struct Sought {
     // the VPID; the kinds that are usable with it, bit k for kind k, and those with any other
     vpid: u64,
     kinds: u64,
@@ -46,9 +47,10 @@ fn nothing() -> Sought
     }
 }
 
-// What is asked for a linear address: a linear mapping with EPT off, a combined one of its EP4TA with EPT on.
-fn sought_at_linear(c: Context, address: u64) -> Sought
-    ensures { λ r. ⌜ AsksForUsable c (Linear address) r ⌝ }
+// What is asked for a linear address: a linear mapping with EPT off, a combined one of its EP4TA with EPT on, of the kinds
+// in two sets, bit k for kind k.
+pub fn sought_at_linear(c: Context, address: u64, linear: u64, combined: u64) -> Sought
+    ensures { λ r. ⌜ ((wanted : ℕ → Bool) → Sets wanted linear combined → AsksFor (usable-of wanted c (Linear address)) r) ⌝ }
 {
     let width = c.linear_width;
     if !addresses::is_canonical(width, address) {
@@ -61,7 +63,7 @@ fn sought_at_linear(c: Context, address: u64) -> Sought
     match ept {
         Ept::Off => Sought {
             vpid,
-            kinds: LINEAR,
+            kinds: linear,
             others: 0,
             pcid: c.pcid,
             ep4ta: 0,
@@ -69,7 +71,7 @@ fn sought_at_linear(c: Context, address: u64) -> Sought
         },
         Ept::On(ep4ta) => Sought {
             vpid,
-            kinds: COMBINED,
+            kinds: combined,
             others: 0,
             pcid: c.pcid,
             ep4ta,
@@ -80,7 +82,7 @@ fn sought_at_linear(c: Context, address: u64) -> Sought
 
 // What is asked for a guest-physical address: a guest-physical mapping of the EP4TA, and nothing with EPT off.
 fn sought_at_guest_physical(c: Context, address: u64) -> Sought
-    ensures { λ r. ⌜ AsksForUsable c (GuestPhysical address) r ⌝ }
+    ensures { λ r. ⌜ AsksFor (usable c (GuestPhysical address)) r ⌝ }
 {
     if model::GUEST_PHYSICAL_LIMIT <= address {
         return nothing();
@@ -103,10 +105,10 @@ fn sought_at_guest_physical(c: Context, address: u64) -> Sought
 
 // What a lookup at the address asks of each record.
 fn sought_at(c: Context, a: Address) -> Sought
-    ensures { λ r. ⌜ AsksForUsable c a r ⌝ }
+    ensures { λ r. ⌜ AsksFor (usable c a) r ⌝ }
 {
     match a {
-        Address::Linear(address) => sought_at_linear(c, address),
+        Address::Linear(address) => sought_at_linear(c, address, LINEAR, COMBINED),
         Address::GuestPhysical(address) => sought_at_guest_physical(c, address),
     }
 }
@@ -152,17 +154,16 @@ fn is_sought(s: Sought, part: &[u8]) -> bool
 }
 
 // Where a record starts and ends in a table.
-struct Part {
-    start: usize,
-    end: usize,
+pub struct Part {
+    pub start: usize,
+    pub end: usize,
 }
 
-// The start and end of the k-th usable record, or 0 and 0 where there is none.
-fn search(c: Context, a: Address, table: &[u8], k: u64) -> Part
+// The start and end of the k-th record that is asked for, or 0 and 0 where there is none.
+pub fn search(asked: Sought, table: &[u8], k: u64) -> Part
     requires { ⌜ whole (now table) ≡ true ⌝ }
-    ensures { λ r. ⌜ Searched c a (now (table .entry)) k (r .start) (r .end) ⌝ }
+    ensures { λ r. ⌜ ((p : Mapping → Bool) → AsksFor p asked → Searched p (now (table .entry)) k (r .start) (r .end)) ⌝ }
 {
-    let asked = sought_at(c, a);
     let mut at = 0;
     let mut left = k;
     let found = loop {
@@ -210,7 +211,7 @@ pub fn find(c: Context, a: Address, table: &[u8], k: u64) -> Found
             end: 0,
         };
     }
-    let found = search(c, a, table, k);
+    let found = search(sought_at(c, a), table, k);
     Found {
         answer,
         start: found.start,
@@ -226,7 +227,7 @@ pub fn look_up<'a>(c: Context, a: Address, table: &'a [u8], k: u64) -> &'a [u8]
     if answer_to_lookup(c, table) != 0 {
         return &table[..0];
     }
-    let part = search(c, a, table, k);
+    let part = search(sought_at(c, a), table, k);
     let start = part.start;
     let end = part.end;
     &table[start..end]

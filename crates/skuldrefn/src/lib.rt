@@ -5,6 +5,8 @@ use flat_contexts::FlatContext;
 use flat_fragments::FlatFinished;
 use flat_fragments::FlatReader;
 use flat_fragments::FlatTaken;
+use flat_levels::FlatLevelPart;
+use flat_levels::FlatLevelStep;
 use flat_steps::FlatKinds;
 use flat_steps::FlatStep;
 use model::Address;
@@ -17,6 +19,8 @@ ghost use lib.ListN.{length};
 ghost use Rattle.widening.specs.Widening.{widening, widening-written};
 ghost use Rattle.logs.specs.Logs.{told-length};
 ghost use Rattle.tables.specs.Counts.{table-pcid-counts};
+ghost use Rattle.level_steps.specs.Levels.{handed};
+ghost use Rattle.flat_levels.specs.Flat.{flat-levels-step, flat-first-pcids, flat-first-written, flat-second-pcids, flat-second-written, flat-levels-lookup};
 ghost use Rattle.skuldrefn.specs.Flat.{flat-step, flat-written, flat-counted-step, flat-counted-pcids, flat-counted-written, flat-counts, flat-lookup, flat-explanation, flat-judgement, flat-walk, fresh, FlatReplays};
 ghost use mathlib.Core.Bool.{cond};
 ghost use Rattle.flat_fragments.specs.Flat.{flat-taken, flat-taken-pcids, flat-taken-written, flat-finished, flat-emptied};
@@ -162,6 +166,58 @@ pub extern "C" fn skuldrefn_lookup_guest_physical(
     ensures { λ r. ⌜ r ≡ flat-lookup context (Address.GuestPhysical address) (now (table .entry)) k ⌝ }
 {
     look_up(context, Address::GuestPhysical(address), table, k)
+}
+
+// One step of two tables, a first-level one before a second-level one, each beside its tally and into its own buffer. The
+// answer is the first table's, or the second's where that is 0. Where either is refused, nothing is written, and the context
+// and the counts come back as they came; else a creation goes into both.
+#[no_mangle]
+pub extern "C" fn skuldrefn_step_levels(
+    context: FlatContext,
+    event: &[u8],
+    kinds: FlatKinds,
+    pcids: &mut [u16],
+    table: &[u8],
+    new: &mut [u8],
+    second_kinds: FlatKinds,
+    second_pcids: &mut [u16],
+    second_table: &[u8],
+    second_new: &mut [u8],
+) -> FlatLevelStep
+    ensures { λ r. ⌜ r ≡ flat-levels-step context (now (event .entry)) (handed (kinds .rows) (now (pcids .entry)) (now (table .entry)) (now (new .entry))) (handed («second_kinds» .rows) (now («second_pcids» .entry)) (now («second_table» .entry)) (now («second_new» .entry))) ⌝ }
+    ensures { λ _. ⌜ now (pcids .exit) ≡ flat-first-pcids context (now (event .entry)) (handed (kinds .rows) (now (pcids .entry)) (now (table .entry)) (now (new .entry))) (handed («second_kinds» .rows) (now («second_pcids» .entry)) (now («second_table» .entry)) (now («second_new» .entry))) ⌝ }
+    ensures { λ _. ⌜ now (new .exit) ≡ flat-first-written context (now (event .entry)) (handed (kinds .rows) (now (pcids .entry)) (now (table .entry)) (now (new .entry))) (handed («second_kinds» .rows) (now («second_pcids» .entry)) (now («second_table» .entry)) (now («second_new» .entry))) ⌝ }
+    ensures { λ _. ⌜ now («second_pcids» .exit) ≡ flat-second-pcids context (now (event .entry)) (handed (kinds .rows) (now (pcids .entry)) (now (table .entry)) (now (new .entry))) (handed («second_kinds» .rows) (now («second_pcids» .entry)) (now («second_table» .entry)) (now («second_new» .entry))) ⌝ }
+    ensures { λ _. ⌜ now («second_new» .exit) ≡ flat-second-written context (now (event .entry)) (handed (kinds .rows) (now (pcids .entry)) (now (table .entry)) (now (new .entry))) (handed («second_kinds» .rows) (now («second_pcids» .entry)) (now («second_table» .entry)) (now («second_new» .entry))) ⌝ }
+{
+    let rows = kinds.rows;
+    let second_rows = second_kinds.rows;
+    flat_levels::step(
+        context,
+        event,
+        rows,
+        pcids,
+        table,
+        new,
+        second_rows,
+        second_pcids,
+        second_table,
+        second_new,
+    )
+}
+
+// The first usable translation at a linear address, as a part of the first-level table if that has one, else of the
+// second-level one. The part is empty where there is none or either table is refused.
+#[no_mangle]
+pub extern "C" fn skuldrefn_lookup_levels(
+    context: FlatContext,
+    first: &[u8],
+    second: &[u8],
+    address: u64,
+) -> FlatLevelPart
+    ensures { λ r. ⌜ r ≡ flat-levels-lookup context address (now (first .entry)) (now (second .entry)) ⌝ }
+{
+    flat_levels::look_up(context, first, second, address)
 }
 
 // Why an event drops a mapping or leaves it: the reason's number, and the answer of a refused step with the rule of

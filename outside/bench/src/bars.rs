@@ -21,6 +21,9 @@ const COUNTED_FROM: usize = 176;
 /// The microseconds of a counted step on an empty table.
 const EMPTY_BAR: f64 = 2.0;
 
+/// How many times two counted steps, for a step of two levels.
+const LEVELS_BAR: f64 = 1.1;
+
 /// How many times the time of half the records.
 const GROWTH_BAR: f64 = 2.2;
 
@@ -138,6 +141,7 @@ pub fn bars(rows: &[Row]) -> String {
         lookup(rows),
         counted(rows),
         counted_on_empty(rows),
+        levels(rows),
         twice_the_records(rows),
     ]);
     bars.iter().map(Bar::print).collect()
@@ -179,6 +183,17 @@ fn counted_on_empty(rows: &[Row]) -> Bar<'_> {
         limit: EMPTY_BAR,
         unit: MICROSECONDS,
         figures: empty.map(|row| (row.ours() / 1e3, row)).collect(),
+    }
+}
+
+fn levels(rows: &[Row]) -> Bar<'_> {
+    Bar {
+        about: format!("step of two levels, beside {}", What::Levels.beside()),
+        limit: LEVELS_BAR,
+        unit: TIMES,
+        figures: of(rows, What::Levels)
+            .map(|row| (row.to_tuned(), row))
+            .collect(),
     }
 }
 
@@ -228,8 +243,8 @@ mod tests {
     #[test]
     fn a_bar_of_nothing_is_missed() {
         let said = bars(&[]);
-        assert_eq!(said.matches("MISS").count(), 9, "{said}");
-        assert_eq!(said.matches("nothing was measured\n").count(), 9, "{said}");
+        assert_eq!(said.matches("MISS").count(), 10, "{said}");
+        assert_eq!(said.matches("nothing was measured\n").count(), 10, "{said}");
     }
 
     #[test]
@@ -287,6 +302,19 @@ mod tests {
                    counted step, mixed kinds, 2816 records:\n        1.500 reset\n";
         assert!(said.ends_with(due), "{said}");
         let said = counted_on_empty(&bad).print();
+        assert!(said.starts_with("MISS"), "{said}");
+    }
+
+    #[test]
+    fn the_bar_of_two_levels() {
+        let good = [
+            row(What::Levels, 16, [109.0, 100.0, 1.0]),
+            row(What::Levels, 2_816, [50.0, 100.0, 1.0]),
+        ];
+        let due = "pass  step of two levels, beside two counted steps: at most 1.1 times; \
+                   worst 1.090 (reset; step of two levels, mixed kinds, 16 records)\n";
+        assert_eq!(levels(&good).print(), due);
+        let said = levels(&[row(What::Levels, 0, [111.0, 100.0, 1.0])]).print();
         assert!(said.starts_with("MISS"), "{said}");
     }
 

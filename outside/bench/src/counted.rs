@@ -11,9 +11,9 @@ use std::hint::black_box;
 use std::rc::Rc;
 
 /// A table and the tally that matches it.
-struct Old {
-    table: Vec<u8>,
-    kinds: Kinds,
+pub struct Old {
+    pub table: Vec<u8>,
+    pub kinds: Kinds,
     /// The counts of all PCIDs that the calls of one item ever change; the
     /// others are 0.
     pcids: Vec<(usize, u16)>,
@@ -23,7 +23,7 @@ impl Old {
     /// Makes a list that an earlier call has changed match this table: a few
     /// counts, so that it takes next to no time.
     #[inline(always)]
-    fn put(&self, list: &mut [u16]) {
+    pub fn put(&self, list: &mut [u16]) {
         for (pcid, count) in &self.pcids {
             list[*pcid] = *count;
         }
@@ -31,7 +31,7 @@ impl Old {
 }
 
 /// Tables with their tallies.
-fn with_tallies(linear_width: u64, tables: Vec<Vec<u8>>) -> Result<Vec<Old>, String> {
+pub fn with_tallies(linear_width: u64, tables: Vec<Vec<u8>>) -> Result<Vec<Old>, String> {
     let width = LinearWidth::of(linear_width);
     let count = |table| model::count(width, table).map_err(|answer| format!("answer {answer}"));
     let tallies: Result<Vec<_>, String> = tables.iter().map(|table| count(table)).collect();

@@ -2,6 +2,7 @@
 
 mod bars;
 mod counted;
+mod levels;
 mod logs;
 mod lookups;
 mod measure;
@@ -37,6 +38,9 @@ had before 57-bit addresses came; those of 57 bits go to the limit, and those
 that are converted have a few records fewer.
 A counted step has a tally besides, whose counts of PCIDs stand in one list that
 is made to match the next table before each call.
+A step of two levels is measured beside two counted steps of the library. Its
+first level has 176 records of the same shape, or as many as the second has; the
+records shown are those of the second.
 A replay starts with an empty table; its time is that of the whole log, shared
 among its events. The tuned model's is a loop of its steps.
 'growth' is the time at 2,816 records over that at 1,408; a full table of
@@ -49,7 +53,7 @@ const PASSES: u32 = 12;
 fn in_a_row(what: What) -> u32 {
     match what {
         What::Step | What::Lookup | What::Widen => 3,
-        What::Counted => 2,
+        What::Counted | What::Levels => 2,
         What::Replay => 1,
     }
 }
@@ -161,6 +165,18 @@ fn items() -> Result<Vec<Item>, String> {
             }
         }
     }
+    for (shape, all) in [
+        (Shape::Scattered, steps::families()),
+        (Shape::Mixed, steps::families()),
+        (Shape::Wide, steps::wide_families()),
+    ] {
+        let sizes = COUNTS.map(|count| tables::tables(shape, count));
+        for family in levels::families(all) {
+            for tables in &sizes {
+                items.push(levels::item(&family, tables, &buffers, &others)?);
+            }
+        }
+    }
     for (shape, address) in [
         (Shape::Scattered, Address::Linear as fn(u64) -> Address),
         (Shape::Mixed, Address::Linear),
@@ -196,6 +212,7 @@ mod tests {
         let count = |what| items.iter().filter(|item| item.row.what == what).count();
         assert_eq!(count(What::Step), (3 * 22 + 4) * COUNTS.len());
         assert_eq!(count(What::Counted), count(What::Step));
+        assert_eq!(count(What::Levels), (2 * 6 + 4) * COUNTS.len());
         assert!(count(What::Lookup) > 30);
         assert_eq!(count(What::Widen), 2 * COUNTS.len());
         assert_eq!(count(What::Replay), 4);

@@ -16,7 +16,7 @@ pub fn table(rows: &[Row]) -> String {
         let block = format!("{}, {}", row.what.name(), row.table);
         if block != heading {
             heading = block;
-            out += &head(&heading, &full_of(rows, row));
+            out += &head(&heading, row.what.beside(), &full_of(rows, row));
         }
         let seen = rows[..number].iter();
         let first = seen.filter(|other| same(other, row)).count() == 0;
@@ -27,8 +27,8 @@ pub fn table(rows: &[Row]) -> String {
     out + &replays(rows)
 }
 
-fn head(heading: &str, full: &usize) -> String {
-    let mut out = format!("\n{heading}: ns an event (times the tuned model's)\n");
+fn head(heading: &str, beside: &str, full: &usize) -> String {
+    let mut out = format!("\n{heading}: ns an event (times that of {beside})\n");
     let _ = write!(out, "{:<22}", "records");
     for count in &COUNTS[..4] {
         let _ = write!(out, "{count:>15}");

@@ -7,6 +7,8 @@ pub enum What {
     Step,
     /// A step with a tally.
     Counted,
+    /// A step of two levels, each with a tally.
+    Levels,
     Lookup,
     /// The converter of 48-bit tables.
     Widen,
@@ -18,9 +20,18 @@ impl What {
         match self {
             What::Step => "step",
             What::Counted => "counted step",
+            What::Levels => "step of two levels",
             What::Lookup => "lookup",
             What::Widen => "widen",
             What::Replay => "replay",
+        }
+    }
+
+    /// What the library is measured beside.
+    pub fn beside(self) -> &'static str {
+        match self {
+            What::Levels => "two counted steps",
+            _ => "the tuned model",
         }
     }
 }
@@ -34,7 +45,8 @@ pub struct Row {
     pub records: usize,
     pub bytes: usize,
     pub events: usize,
-    /// Nanoseconds of an event: the library, the tuned model, a plain copy.
+    /// Nanoseconds of an event: the library, the tuned model (or two counted steps of
+    /// the library, beside a step of two levels), a plain copy.
     pub times: [f64; 3],
 }
 
@@ -43,7 +55,7 @@ impl Row {
         self.times[0]
     }
 
-    /// How many times the tuned model's time.
+    /// How many times the time of what it is measured beside.
     pub fn to_tuned(&self) -> f64 {
         self.times[0] / self.times[1]
     }

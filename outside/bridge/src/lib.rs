@@ -3,13 +3,15 @@
 //! types of a context, an address, a tally and a result are used, none of its
 //! rules.
 
+mod levels;
 mod stream;
 mod tally;
 
+pub use levels::{lookup_levels, step_levels_lent, LentLevel, LevelAfter, LevelStep};
 use model::{Address, Context, Place, Reason};
 pub use skuldrefn::{
     explain_flat, judge_flat, plain_step_flat, replay_flat, walk_flat, FlatContext, FlatJudgement,
-    FlatReason, FlatReplayed, FlatStep, FlatWalk, Part,
+    FlatReason, FlatReplayed, FlatStep, FlatWalk, LevelPart, Part,
 };
 use std::ops::Range;
 pub use stream::{finish, reset_reader, take_lent, Finished, Taken};

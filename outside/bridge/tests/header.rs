@@ -3,7 +3,8 @@
 use common::{KINDS, LINEAR_WIDTHS};
 use model::{LinearWidth, Reason};
 use skuldrefn::raw::{Counted, CountedStep, FlatWalk};
-use skuldrefn::{FlatFinished, FlatJudgement, FlatTaken, Reader};
+use skuldrefn::{FlatFinished, FlatJudgement, FlatLevel, FlatLevelStep, FlatTaken};
+use skuldrefn::{LevelPart, Reader};
 use std::env::temp_dir;
 use std::fs;
 use std::mem::{offset_of, size_of};
@@ -22,6 +23,7 @@ INVVPID: takes the record
 a table that keeps it: unmatched at byte 0
 5 0 1 0
 in fragments: 5 events
+two levels: the record is in the second alone
 walk: ending 0, 24 entries read
 ";
 
@@ -224,6 +226,86 @@ fn claims_in_c() {
     assert_eq!(printed.lines().collect::<Vec<_>>(), due);
     let size = size_of::<FlatJudgement>();
     assert_eq!((size, offset_of!(FlatJudgement, position)), (32, 24));
+}
+
+/// Steps two levels and looks up in both, and prints what each reports; then the
+/// sizes.
+const LEVELS: &str = r#"
+#include "skuldrefn.h"
+#include <stdio.h>
+
+static const uint8_t record[17] = {1, 0, 0, 0, 0, 0, 2};
+static const uint8_t reset[1] = {25};
+static uint8_t small[2][17], large[2][40];
+
+int main(void)
+{
+    skuldrefn_context context = {
+        SKULDREFN_PROGRAM_CAPABILITY, SKULDREFN_PROGRAM_WIDTH, SKULDREFN_PROGRAM_LINEAR_WIDTH,
+        0, 0, SKULDREFN_OUTSIDE, 0, 0, 0};
+    static skuldrefn_tally first, second;
+    const struct { const uint8_t *event; size_t length, tables[2], rooms[2]; } cases[4] = {
+        {record, 17, {0, 0}, {17, 16}},
+        {record, 17, {0, 0}, {17, 40}},
+        {record, 17, {17, 17}, {17, 40}},
+        {reset, 1, {17, 17}, {17, 40}},
+    };
+    for (int i = 0; i < 4; i++) {
+        int now = i < 2 ? 0 : 1;
+        skuldrefn_level_step step = skuldrefn_step_levels(
+            context, cases[i].event, cases[i].length,
+            first.kinds, first.pcids, SKULDREFN_PCIDS, small[1 - now], cases[i].tables[0],
+            small[now], cases[i].rooms[0],
+            second.kinds, second.pcids, SKULDREFN_PCIDS, large[1 - now], cases[i].tables[1],
+            large[now], cases[i].rooms[1]);
+        first.kinds = step.first.kinds;
+        second.kinds = step.second.kinds;
+        printf("%d %d, %d %d, %d %d, %d %d\n", (int)step.answer, (int)step.rule,
+            (int)step.first.length, (int)step.first.dropped, (int)step.second.length,
+            (int)step.second.dropped, first.kinds.rows[0].spans[2], second.pcids[0]);
+        for (size_t tables = 0; i == 1 && tables < 4; tables++) {
+            skuldrefn_level_part part = skuldrefn_lookup_levels(
+                context, small[0], tables & 1 ? 17 : 0, large[0], tables & 2 ? 17 : 16, 0);
+            printf("%d %d %d %d\n", (int)part.answer, (int)part.level, (int)part.start,
+                (int)part.length);
+        }
+    }
+    printf("%zu %zu %zu %zu\n", sizeof(skuldrefn_level), sizeof(skuldrefn_level_step),
+        offsetof(skuldrefn_level_step, second), sizeof(skuldrefn_level_part));
+    return 0;
+}
+"#;
+
+#[test]
+fn two_levels_in_c() {
+    let source = Temporary::new("levels.c");
+    fs::write(&source.0, LEVELS).expect("a file");
+    let Some(printed) = printed("levels", &source.0) else {
+        return;
+    };
+    let (calls, sizes) = printed.trim_end().rsplit_once('\n').expect("lines");
+    let due = [
+        // No room at the second level, then it is created at both.
+        "12 0, 0 0, 0 0, 0 0",
+        "0 0, 17 0, 17 0, 1 1",
+        // The second table cut, with nothing in the first and with the record; then
+        // the record in the second, and in both.
+        "3 0 0 0",
+        "3 0 0 0",
+        "0 2 0 17",
+        "0 1 0 17",
+        // Again: no room at the first level. A reset.
+        "12 0, 0 0, 0 0, 1 1",
+        "0 0, 0 1, 0 1, 0 0",
+    ];
+    assert_eq!(calls.lines().collect::<Vec<_>>(), due);
+    let due = [
+        size_of::<FlatLevel>(),
+        size_of::<FlatLevelStep>(),
+        offset_of!(FlatLevelStep, second),
+        size_of::<LevelPart>(),
+    ];
+    assert_eq!(sizes, due.map(|size| size.to_string()).join(" "));
 }
 
 /// Takes a log in fragments and prints each event, then what a finish call and

@@ -3,6 +3,8 @@
 use crate::claim::ClaimCase;
 use crate::count::CountCase;
 use crate::explain::ExplainCase;
+use crate::level::{LevelCase, LevelLookupCase};
+use crate::level_run::LevelRunCase;
 use crate::lookup::LookupCase;
 use crate::reached::Reached;
 use crate::replay::ReplayCase;
@@ -26,6 +28,9 @@ pub enum Case {
     Claim(ClaimCase),
     Run(RunCase),
     Replay(ReplayCase),
+    Level(LevelCase),
+    LevelLookup(LevelLookupCase),
+    LevelRun(LevelRunCase),
     Take(TakeCase),
     Stream(StreamCase),
     Widen(WidenCase),
@@ -50,6 +55,9 @@ impl Case {
             Case::Claim(case) => case.check(reached),
             Case::Run(case) => case.check(reached),
             Case::Replay(case) => case.check(reached),
+            Case::Level(case) => case.check(reached),
+            Case::LevelLookup(case) => case.check(reached),
+            Case::LevelRun(case) => case.check(reached),
             Case::Take(case) => case.check(reached),
             Case::Stream(case) => case.check(reached),
             Case::Widen(case) => case.check(reached),
@@ -78,6 +86,12 @@ impl Case {
             Case::Claim(case) => case.smaller().into_iter().map(Case::Claim).collect(),
             Case::Run(case) => case.smaller().into_iter().map(Case::Run).collect(),
             Case::Replay(case) => case.smaller().into_iter().map(Case::Replay).collect(),
+            Case::Level(case) => case.smaller().into_iter().map(Case::Level).collect(),
+            Case::LevelLookup(case) => {
+                let smaller = case.smaller().into_iter();
+                smaller.map(Case::LevelLookup).collect()
+            }
+            Case::LevelRun(case) => case.smaller().into_iter().map(Case::LevelRun).collect(),
             Case::Take(case) => case.smaller().into_iter().map(Case::Take).collect(),
             Case::Stream(case) => case.smaller().into_iter().map(Case::Stream).collect(),
             Case::Widen(case) => case.smaller().into_iter().map(Case::Widen).collect(),
@@ -96,6 +110,9 @@ impl fmt::Display for Case {
             Case::Claim(case) => case.fmt(f),
             Case::Run(case) => case.fmt(f),
             Case::Replay(case) => case.fmt(f),
+            Case::Level(case) => case.fmt(f),
+            Case::LevelLookup(case) => case.fmt(f),
+            Case::LevelRun(case) => case.fmt(f),
             Case::Take(case) => case.fmt(f),
             Case::Stream(case) => case.fmt(f),
             Case::Widen(case) => case.fmt(f),

@@ -5,6 +5,8 @@ use crate::claim::ClaimCase;
 use crate::count::CountCase;
 use crate::expected;
 use crate::explain::ExplainCase;
+use crate::level::{LevelCase, LevelInput, LevelLookupCase};
+use crate::level_run::{LevelMoment, LevelRunCase};
 use crate::lookup::LookupCase;
 use crate::replay::{starts, ReplayCase};
 use crate::run::{Moment, RunCase};
@@ -17,7 +19,7 @@ use bridge::FlatContext;
 use common::{LINEAR_WIDTHS, LOG_LIMIT, PCIDS, ROW, TABLE_LIMIT};
 use common::{PROGRAM_CAPABILITY, PROGRAM_WIDTH};
 use generate::{start, Rng, BAD_LINEAR_WIDTHS};
-use model::{Context, Place};
+use model::{Address, Context, Place};
 
 /// Numbers near the bounds of what a place or an EPT state can be.
 pub const ODD_NUMBERS: [u64; 10] = [
@@ -265,6 +267,88 @@ fn replay_of(rng: &mut Rng, start: &Context, log: Vec<u8>) -> ReplayCase {
         second: buffer(rng, second),
         rows: buffer(rng, rows),
         log,
+    }
+}
+
+/// A step of two levels, aimed at any pair of answers.
+pub fn level(rng: &mut Rng) -> LevelCase {
+    let drawn = generate::level_case(rng);
+    LevelCase {
+        context: any_flat(rng, &drawn.context),
+        event: drawn.event,
+        levels: drawn.levels.map(|level| LevelInput {
+            tally: level.tally,
+            table: level.table,
+            new: buffer(rng, level.new),
+        }),
+    }
+}
+
+/// A lookup in two levels.
+pub fn level_lookup(rng: &mut Rng) -> LevelLookupCase {
+    let query = generate::level_query(rng);
+    LevelLookupCase {
+        context: any_flat(rng, &query.context),
+        tables: query.tables,
+        address: query.address,
+    }
+}
+
+/// A run of two levels of so many events, with addresses to look up at some of them;
+/// one in six has short buffers at the first level.
+pub fn level_run(rng: &mut Rng, count: usize) -> LevelRunCase {
+    let start = start(rng);
+    let width = start.linear_width;
+    let events = generate::events(rng, width, count);
+    let mut case = level_run_of(rng, &start, events, 8);
+    if rng.one_in(6) {
+        for nth in [0, 1, 4, 5] {
+            case.buffers[nth].length = rng.pick(&[100, 400, 1_000]);
+        }
+    }
+    case
+}
+
+/// A run of two levels that fills both tables.
+pub fn filling_level_run(rng: &mut Rng) -> LevelRunCase {
+    let start = program(rng);
+    let log = generate::filling_log(rng, start.linear_width);
+    let starts = starts(start.linear_width, &log);
+    let events = starts.windows(2).map(|ends| log[ends[0]..ends[1]].to_vec());
+    let events = events.collect();
+    level_run_of(rng, &start, events, 100)
+}
+
+fn level_run_of(
+    rng: &mut Rng,
+    start: &Context,
+    events: Vec<Vec<u8>>,
+    seldom: usize,
+) -> LevelRunCase {
+    let mut buffers = [Buffer { length: 0, fill: 0 }; 8];
+    for lent in &mut buffers {
+        let more = rng.pick(&[0, 0, 1, 100]);
+        *lent = buffer(rng, TABLE_LIMIT + more);
+    }
+    let width = start.linear_width;
+    let moments = events.into_iter().map(Some).chain([None]);
+    let moments = moments.map(|event| {
+        let some = moment(rng, width, event, seldom);
+        let number = |address: &Address| match address {
+            Address::Linear(number) | Address::GuestPhysical(number) => *number,
+        };
+        LevelMoment {
+            removals: [some.removal, rng.number()],
+            addresses: some.addresses.iter().map(number).collect(),
+            event: some.event,
+        }
+    });
+    LevelRunCase {
+        capability: start.capability,
+        width: start.width,
+        linear_width: width,
+        buffers,
+        moments: moments.collect(),
     }
 }
 

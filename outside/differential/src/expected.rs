@@ -2,8 +2,10 @@
 
 use crate::walk::WalkCase;
 use bridge::{Finished, FlatContext, FlatReason, FlatReplayed, FlatStep, Part, Taken};
+use bridge::{LevelAfter, LevelPart, LevelStep};
 use common::{write_row, ROW, TABLE_LIMIT};
 use model::event::Event;
+use model::levels::{self, After, Level};
 use model::reason::has_scope;
 use model::stream::{self, Reader};
 use model::walk::{walk_with_spans, Ending};
@@ -52,6 +54,69 @@ fn on_flat(context: &FlatContext, step: impl FnOnce(&Context) -> Step) -> FlatSt
         context: bridge::flat(&step.context),
         length: step.length,
         dropped: step.dropped,
+    }
+}
+
+/// One level of a step: its tally, its table and its new buffer.
+pub type OneLevel<'a> = (&'a mut Tally, &'a [u8], &'a mut [u8]);
+
+/// One step of both levels.
+pub fn step_levels(
+    context: &FlatContext,
+    event: &[u8],
+    first: OneLevel,
+    second: OneLevel,
+) -> LevelStep {
+    let [first, second] = [first, second].map(|(tally, table, new)| Level { tally, table, new });
+    let kinds = |level: &Level| level.tally.kinds;
+    let mut result = LevelStep {
+        answer: 1,
+        rule: 0,
+        context: *context,
+        levels: [kinds(&first), kinds(&second)].map(|kinds| LevelAfter {
+            length: 0,
+            dropped: 0,
+            kinds,
+        }),
+    };
+    let Some(known) = bridge::context(context) else {
+        return result;
+    };
+    // The tallies are looked at again behind the step.
+    let (own, other) = (first.tally, second.tally);
+    let level = |tally, table, new| Level { tally, table, new };
+    let one = level(&mut *own, first.table, first.new);
+    let two = level(&mut *other, second.table, second.new);
+    let step = levels::step_levels(&known, event, one, two);
+    (result.answer, result.rule) = (step.answer, step.rule);
+    if step.answer == 0 {
+        result.context = bridge::flat(&step.context);
+        let after = |after: After, tally: &Tally| LevelAfter {
+            length: after.length,
+            dropped: after.dropped,
+            kinds: tally.kinds,
+        };
+        result.levels = [after(step.first, own), after(step.second, other)];
+    }
+    result
+}
+
+/// The first usable translation of a linear address in two levels.
+pub fn lookup_levels(
+    context: &FlatContext,
+    first: &[u8],
+    second: &[u8],
+    address: u64,
+) -> LevelPart {
+    let (answer, found) = match bridge::context(context) {
+        None => (1, None),
+        Some(known) => levels::lookup_levels(&known, first, second, address),
+    };
+    LevelPart {
+        answer,
+        level: found.as_ref().map_or(0, |found| found.level),
+        start: found.as_ref().map_or(0, |found| found.place.start),
+        length: found.as_ref().map_or(0, |found| found.place.len()),
     }
 }
 

@@ -5,6 +5,8 @@ use crate::case::Case;
 use crate::claim::ClaimCase;
 use crate::count::CountCase;
 use crate::explain::ExplainCase;
+use crate::level::{LevelCase, LevelInput, LevelLookupCase};
+use crate::level_run::{LevelMoment, LevelRunCase};
 use crate::lookup::LookupCase;
 use crate::replay::ReplayCase;
 use crate::run::{Moment, RunCase};
@@ -33,6 +35,9 @@ pub fn parse(text: &str) -> Result<Case, String> {
         "claim" => lines.claim().map(Case::Claim),
         "run" => lines.run().map(Case::Run),
         "replay" => lines.replay().map(Case::Replay),
+        "level" => lines.level().map(Case::Level),
+        "level-lookup" => lines.level_lookup().map(Case::LevelLookup),
+        "level-run" => lines.level_run().map(Case::LevelRun),
         "take" => lines.take_case().map(Case::Take),
         "stream" => lines.stream().map(Case::Stream),
         "widen" => lines.widen().map(Case::Widen),
@@ -262,6 +267,67 @@ impl<'a> Lines<'a> {
             first: self.buffer("first")?,
             second: self.buffer("second")?,
             rows: self.buffer("rows")?,
+        })
+    }
+
+    fn level_input(&mut self) -> Result<LevelInput, String> {
+        Ok(LevelInput {
+            tally: self.tally()?,
+            table: self.bytes("table")?,
+            new: self.buffer("new")?,
+        })
+    }
+
+    fn level(&mut self) -> Result<LevelCase, String> {
+        Ok(LevelCase {
+            context: self.context()?,
+            event: self.bytes("event")?,
+            levels: [self.level_input()?, self.level_input()?],
+        })
+    }
+
+    fn level_lookup(&mut self) -> Result<LevelLookupCase, String> {
+        let context = self.context()?;
+        let tables = [self.bytes("table")?, self.bytes("table")?];
+        let [address] = self.numbers("linear")?;
+        Ok(LevelLookupCase {
+            context,
+            tables,
+            address,
+        })
+    }
+
+    fn level_run(&mut self) -> Result<LevelRunCase, String> {
+        let [capability, width, linear_width] = self.numbers("start")?;
+        let mut buffers = [Buffer { length: 0, fill: 0 }; 8];
+        for own in &mut buffers {
+            *own = self.buffer("buffer")?;
+        }
+        let mut moments = Vec::new();
+        while self.peek().is_some_and(|(name, _)| name == "removals") {
+            let removals = self.numbers("removals")?;
+            let mut addresses = Vec::new();
+            while self.peek().is_some_and(|(name, _)| name == "linear") {
+                let [address] = self.numbers("linear")?;
+                addresses.push(address);
+            }
+            let event = match self.peek() {
+                Some(("event", _)) => Some(self.bytes("event")?),
+                _ => None,
+            };
+            moments.push(LevelMoment {
+                removals,
+                addresses,
+                event,
+            });
+        }
+        self.take("end")?;
+        Ok(LevelRunCase {
+            capability,
+            width,
+            linear_width,
+            buffers,
+            moments,
         })
     }
 

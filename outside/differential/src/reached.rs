@@ -19,6 +19,61 @@ pub struct Reached {
     pub replays: u64,
     /// Logs in fragments.
     pub streams: u64,
+    /// Runs of two levels.
+    pub level_runs: u64,
+}
+
+/// Counts of two levels.
+#[derive(Clone, Debug, Default)]
+pub struct Levels {
+    /// Single steps by the answers that the two tables have alone.
+    pub pairs: [[u64; 14]; 14],
+    /// Single steps by their EPTP rule.
+    pub rules: [u64; 6],
+    /// Single steps that dropped another count of records at each level.
+    pub dropped_apart: u64,
+    /// Lookups by the answers that the two tables have alone.
+    pub lookups: [[u64; 4]; 4],
+    /// Accepted lookups: those that found nothing, and at which level.
+    pub found: [u64; 3],
+    /// Lookups that found a record behind others.
+    pub behind: u64,
+    /// Steps of runs by their answer.
+    pub run_steps: [u64; 14],
+}
+
+impl Levels {
+    fn calls(&self) -> u64 {
+        let pairs = self.pairs.as_flattened().iter();
+        let lookups = self.lookups.as_flattened().iter();
+        pairs.chain(lookups).chain(&self.run_steps).sum()
+    }
+}
+
+impl fmt::Display for Levels {
+    fn fmt(&self, f: &mut fmt::Formatter) -> fmt::Result {
+        write!(f, "two levels, by the answers alone:")?;
+        for (first, row) in self.pairs.iter().enumerate() {
+            if row.iter().any(|count| *count > 0) {
+                write!(f, " {first} with ({})", numbered(row))?;
+            }
+        }
+        let [none, first, second] = self.found;
+        writeln!(
+            f,
+            "; rules {}; {} dropped another count at each",
+            numbered(&self.rules),
+            self.dropped_apart
+        )?;
+        write!(
+            f,
+            "lookups in two levels by answers {:?}: {none} found none, {first} at the first, \
+             {second} at the second, {} behind others; in runs {}",
+            self.lookups,
+            self.behind,
+            numbered(&self.run_steps)
+        )
+    }
 }
 
 /// Counts of the calls of a reader.
@@ -152,6 +207,7 @@ pub struct Counts {
     /// Fresh counts by their answer.
     pub counts: [u64; 14],
     pub streams: Streams,
+    pub levels: Levels,
     /// Rows of replays by their answer.
     pub rows: [u64; 13],
     /// Lookups by their answer.
@@ -260,7 +316,7 @@ impl Counts {
             &self.claims,
             &self.walks,
         ];
-        all.into_iter().flatten().sum::<u64>() + self.streams.calls()
+        all.into_iter().flatten().sum::<u64>() + self.streams.calls() + self.levels.calls()
     }
 }
 
@@ -306,6 +362,7 @@ impl fmt::Display for Counts {
         writeln!(f, "reasons: {}", numbered(&self.reasons))?;
         writeln!(f, "walks by ending: {}", numbered(&self.walks))?;
         writeln!(f, "{}", self.streams)?;
+        writeln!(f, "{}", self.levels)?;
         writeln!(
             f,
             "EPTP rules: {}; in reasons: {}; of claims: {}",
@@ -339,8 +396,8 @@ impl fmt::Display for Reached {
         writeln!(f, "{}", self.walks)?;
         writeln!(
             f,
-            "{} runs, {} replays, {} logs in fragments",
-            self.runs, self.replays, self.streams
+            "{} runs, {} replays, {} logs in fragments, {} runs of two levels",
+            self.runs, self.replays, self.streams, self.level_runs
         )?;
         write!(f, "{} answers compared", self.calls())
     }

@@ -5,6 +5,7 @@ use crate::count::CountCase;
 use crate::draw::{self, buffer, flat, ODD_NUMBERS};
 use crate::expected;
 use crate::explain::ExplainCase;
+use crate::level::{LevelCase, LevelInput, LevelLookupCase};
 use crate::lookup::LookupCase;
 use crate::replay::ReplayCase;
 use crate::step::StepCase;
@@ -432,6 +433,71 @@ pub fn cut_logs(rng: &mut Rng) -> Vec<ReplayCase> {
         rows: buffer(rng, ROW * cut),
     };
     (0..=log.len()).map(with).collect()
+}
+
+/// One event on two tables, with every pair of new buffers that matter: too short by
+/// one, just long enough, and longer.
+pub fn level_rooms(rng: &mut Rng) -> Vec<LevelCase> {
+    let case = draw::level(rng);
+    let rooms = |level: &LevelInput| {
+        let table = level.table.len();
+        let needed = table + case.event.len();
+        [
+            table.saturating_sub(1),
+            table,
+            needed.saturating_sub(1),
+            needed,
+            needed + 9,
+        ]
+    };
+    let mut cases = Vec::new();
+    for one in rooms(&case.levels[0]) {
+        for other in rooms(&case.levels[1]) {
+            let mut case = case.clone();
+            case.levels[0].new.length = one;
+            case.levels[1].new.length = other;
+            cases.push(case);
+        }
+    }
+    cases
+}
+
+/// One step of two levels in every context one field away from its own, and those that
+/// stand for nothing; and a lookup in each.
+pub fn near_levels(rng: &mut Rng) -> (Vec<LevelCase>, Vec<LevelLookupCase>) {
+    let (case, lookup) = (draw::level(rng), draw::level_lookup(rng));
+    let own = bridge::context(&case.context);
+    let own = own.unwrap_or_else(|| generate::context(rng));
+    let (mut cases, mut lookups) = (Vec::new(), Vec::new());
+    for context in contexts_near(rng, &own) {
+        let (case, lookup) = (case.clone(), lookup.clone());
+        cases.push(LevelCase { context, ..case });
+        lookups.push(LevelLookupCase { context, ..lookup });
+    }
+    (cases, lookups)
+}
+
+/// Lookups in two levels at the ends of each record of either.
+pub fn level_edges(rng: &mut Rng) -> Vec<LevelLookupCase> {
+    let context = generate::context(rng);
+    let width = context.linear_width;
+    let tables = [0, 1].map(|_| {
+        let count = rng.below(6);
+        generate::table(rng, &context, count)
+    });
+    let mut addresses = edges(width, &tables[0]);
+    addresses.extend(edges(width, &tables[1]));
+    let mut cases = Vec::new();
+    for number in addresses {
+        for address in [canonical(width, number), number] {
+            cases.push(LevelLookupCase {
+                context: flat(rng, &context),
+                tables: tables.clone(),
+                address,
+            });
+        }
+    }
+    cases
 }
 
 /// A log with an event of every kind, cut in two after each of its bytes, ended

@@ -103,6 +103,30 @@ pub fn replays(rng: &mut Rng, reached: &mut Reached) -> Result<(), Failure> {
     all(sweep::cut_logs(rng), Case::Replay, reached)
 }
 
+/// Steps and lookups of two levels.
+pub fn levels(rng: &mut Rng, reached: &mut Reached) -> Result<(), Failure> {
+    for _ in 0..150 {
+        Case::Level(draw::level(rng)).compare(reached)?;
+    }
+    for _ in 0..100 {
+        Case::LevelLookup(draw::level_lookup(rng)).compare(reached)?;
+    }
+    all(sweep::level_rooms(rng), Case::Level, reached)?;
+    all(sweep::level_edges(rng), Case::LevelLookup, reached)?;
+    if rng.one_in(4) {
+        let (steps, lookups) = sweep::near_levels(rng);
+        all(steps, Case::Level, reached)?;
+        all(lookups, Case::LevelLookup, reached)?;
+    }
+    Ok(())
+}
+
+/// A run of two levels.
+pub fn level_runs(rng: &mut Rng, reached: &mut Reached) -> Result<(), Failure> {
+    let count = 30 + rng.below(150);
+    Case::LevelRun(draw::level_run(rng, count)).compare(reached)
+}
+
 /// Calls of a reader, and logs in fragments.
 pub fn streams(rng: &mut Rng, reached: &mut Reached) -> Result<(), Failure> {
     for _ in 0..120 {
@@ -142,19 +166,20 @@ pub fn walks(rng: &mut Rng, reached: &mut Reached) -> Result<(), Failure> {
     Ok(())
 }
 
-/// A run, a replay or a log in fragments that fills the table.
+/// A run, one of two levels, a replay or a log in fragments that fills the table.
 fn filling(rng: &mut Rng, reached: &mut Reached) -> Result<(), Failure> {
-    match rng.below(3) {
+    match rng.below(4) {
         0 => Case::Run(draw::filling_run(rng)).compare(reached),
         1 => Case::Replay(draw::filling_replay(rng)).compare(reached),
+        2 => Case::LevelRun(draw::filling_level_run(rng)).compare(reached),
         _ => Case::Stream(draw::filling_stream(rng)).compare(reached),
     }
 }
 
 /// The work of one round.
-const ROUND: [Work; 14] = [
+const ROUND: [Work; 16] = [
     steps, near_steps, tallies, lookups, claims, steps, runs, replays, steps, lookups, explains,
-    widenings, walks, streams,
+    widenings, walks, streams, levels, level_runs,
 ];
 
 /// Once in so many rounds a table is filled.

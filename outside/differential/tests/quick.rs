@@ -195,6 +195,76 @@ fn replays_of_logs() {
     }
 }
 
+/// Whether two tables can have these answers alone, for one context and event.
+fn is_possible(one: usize, other: usize) -> bool {
+    // What is said of a table or its tally, and what of the context and the event.
+    let [small, large] = [one.min(other), one.max(other)];
+    match (small, large) {
+        (1, _) => large == 1,
+        (2 | 3, _) => true,
+        (0, _) => matches!(large, 0 | 2 | 3 | 12 | 13),
+        (4, _) => large == 4,
+        (_, 13) => true,
+        _ => small == large,
+    }
+}
+
+/// Every pair of answers that two tables can have, and lookups at either level.
+#[test]
+fn two_levels_of_every_pair() {
+    let reached = compare(320, work::levels);
+    for (width, counts) in reached.both() {
+        let levels = &counts.levels;
+        for one in 0..14 {
+            for other in 0..14 {
+                let count = levels.pairs[one][other];
+                let possible = is_possible(one, other);
+                assert_eq!(count > 4, possible, "{width} bits: {one}, {other}: {count}");
+                assert_eq!(count > 0, possible, "{one}, {other}");
+            }
+        }
+        assert!(levels.rules.iter().all(|count| *count > 20));
+        assert!(levels.dropped_apart > 500);
+        for one in 0..4 {
+            for other in 0..4 {
+                let count = levels.lookups[one][other];
+                let possible = (one == 1) == (other == 1);
+                assert_eq!(count > 1, possible, "{width} bits: {one}, {other}: {count}");
+            }
+        }
+        assert!(levels.found.iter().all(|count| *count > 500));
+        assert!(levels.behind > 500);
+    }
+}
+
+/// Runs with records taken out at both levels, by the book.
+#[test]
+fn runs_of_two_levels() {
+    let reached = compare(60, work::level_runs);
+    assert_eq!(reached.level_runs, 60);
+    for (_, counts) in reached.both() {
+        let levels = &counts.levels;
+        assert_eq!(levels.run_steps[13], 0);
+        assert!(levels.run_steps[0] > 1_000 && levels.run_steps[12] > 10);
+        assert!(levels.found[1] > 20 && levels.found[2] > 5);
+    }
+}
+
+#[test]
+fn two_levels_that_fill_the_tables() {
+    let mut rng = Rng::new(SEED);
+    let mut reached = Reached::default();
+    for _ in 0..2 {
+        passed(Case::LevelRun(draw::filling_level_run(&mut rng)).compare(&mut reached));
+    }
+    let filled: u64 = reached
+        .both()
+        .map(|(_, counts)| counts.levels.run_steps[12])
+        .iter()
+        .sum();
+    assert!(filled > 0);
+}
+
 /// Every answer of an event in fragments, every count of bytes held before it, and
 /// readers that ignore for every cause.
 #[test]

@@ -16,6 +16,9 @@ fn cases() -> Vec<Case> {
         cases.push(Case::Claim(draw::claim(&mut rng)));
         cases.push(Case::Run(draw::run(&mut rng, 30)));
         cases.push(Case::Replay(draw::replay(&mut rng, 300)));
+        cases.push(Case::Level(draw::level(&mut rng)));
+        cases.push(Case::LevelLookup(draw::level_lookup(&mut rng)));
+        cases.push(Case::LevelRun(draw::level_run(&mut rng, 20)));
         cases.push(Case::Take(draw::take(&mut rng)));
         cases.push(Case::Stream(draw::stream(&mut rng, 300)));
         cases.push(Case::Widen(draw::widen(&mut rng)));
@@ -104,7 +107,7 @@ fn fuzz(words: &[&str], input: &str) -> Output {
 
 #[test]
 fn the_program_compares_a_case_again() {
-    for case in cases().iter().take(22) {
+    for case in cases().iter().take(28) {
         let output = fuzz(&["--case", "-"], &case.to_string());
         assert_eq!(output.status.code(), Some(0));
         assert_eq!(output.stdout, b"no difference\n");

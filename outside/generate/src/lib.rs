@@ -14,6 +14,7 @@
 //! * [`case`], [`query`], [`explain`], [`widening`], [`walk()`]: inputs of one step,
 //!   of one lookup, of one explanation, of one conversion and of one walk.
 //! * [`claim()`]: a claimed table after a step.
+//! * [`level_case`], [`level_query`]: steps and lookups of two levels.
 //! * [`taking`], [`reader`], [`fragments`]: logs in fragments, and readers of them.
 //! * [`start`], [`events`], [`log`], [`filling_log`]: whole runs and logs.
 //! * [`context`], [`table`], [`event`], [`address`] and so on: the parts.
@@ -30,6 +31,7 @@ mod damage;
 mod event;
 mod explain;
 mod fitting;
+mod levels;
 mod pool;
 mod query;
 mod record;
@@ -49,6 +51,7 @@ pub use context::{capability, context, near_contexts, BAD_LINEAR_WIDTHS};
 pub use event::{event, event_of_kind};
 pub use explain::{explain, Explain};
 pub use fitting::fitting;
+pub use levels::{level_case, level_query, LevelCase, LevelQuery, OneLevel};
 pub use pool::address;
 pub use query::{query, Query};
 pub use record::other_width;

@@ -4,9 +4,13 @@
 use common::{canonical, field, is_mapping_kind, kinds, sizes};
 use common::{KINDS, LINEAR_WIDTHS, LOG_LIMIT, PCIDS};
 use generate::{case, events, explain, filling_log, log, near_events, near_tallies, other_width};
-use generate::{fragments, log_of_every_kind, query, table_of_result, taking, walk, widening};
+use generate::{
+    fragments, level_case, level_query, log_of_every_kind, query, table_of_result, taking, walk,
+    widening,
+};
 use generate::{Rng, SparseTally, Taking, BAD_LINEAR_WIDTHS};
 use model::event::{length, Event};
+use model::levels::lookup_levels;
 use model::mapping::{records, Mapping};
 use model::replay::first_event;
 use model::stream::take;
@@ -66,6 +70,44 @@ fn every_answer_is_reached() {
             assert!(reached.rules[answer].iter().all(|count| *count >= 20));
         }
     }
+}
+
+/// Steps of two levels reach what each table can say beside the other, and lookups
+/// find a translation at either level.
+#[test]
+fn two_levels() {
+    println!("seed {SEED}");
+    let mut rng = Rng::new(SEED);
+    let mut answers = [[0; 14]; 14];
+    for _ in 0..20_000 {
+        let case = level_case(&mut rng);
+        let [one, other] = [0, 1].map(|nth: usize| {
+            let level = &case.levels[nth];
+            let (mut tally, mut new) = (level.tally.tally(), vec![0; level.new]);
+            let (context, table) = (&case.context, &level.table);
+            counted_step(context, &mut tally, table, &case.event, &mut new).answer
+        });
+        answers[one as usize][other as usize] += 1;
+    }
+    println!("{answers:?}");
+    // What a table, its tally or its room says, beside another table's.
+    for one in [0, 2, 3, 12, 13] {
+        for other in [0, 2, 3, 12, 13] {
+            assert!(answers[one][other] >= 4, "{one}, {other}");
+        }
+    }
+    for same in [1, 4, 5, 6, 7, 8, 9, 10, 11] {
+        assert!(answers[same][same] >= 100, "{same}");
+    }
+    let mut found = [0; 3];
+    for _ in 0..10_000 {
+        let query = level_query(&mut rng);
+        let [first, second] = &query.tables;
+        let (_, place) = lookup_levels(&query.context, first, second, query.address);
+        found[place.map_or(0, |found| found.level as usize)] += 1;
+    }
+    println!("found: {found:?}");
+    assert!(found.iter().all(|count| *count >= 200), "{found:?}");
 }
 
 /// What calls of a reader reach at one linear width.

@@ -16,6 +16,7 @@
 //! * [`tally`]: the tally beside the table (Ask 7).
 //! * [`widen()`]: a stored 48-bit table at 57 bits (Ask 12).
 //! * [`claim`]: another simulator's table judged (Ask 8).
+//! * [`levels`]: two levels of TLB (Ask 10).
 //! * [`stream`]: a log as it arrives, in fragments (Ask 3).
 //! * [`walk()`]: a guest's tables walked through EPT (Ask 13).
 //! * [`book`]: a whole run judged from its events alone.
@@ -28,6 +29,7 @@ pub mod claim;
 pub mod context;
 pub mod event;
 pub mod judge;
+pub mod levels;
 pub mod lookup;
 pub mod mapping;
 pub mod reason;

@@ -2,9 +2,11 @@
 //! carried on against a fresh count, on random inputs. A failure prints the seed
 //! and the case.
 
-use generate::{case, events, filling_log, fragments, hex, log, query, removal, start, Rng};
+use generate::{case, events, filling_log, fragments, hex, level_case, level_query, log};
+use generate::{query, removal, start, Rng};
 use model::book::Book;
 use model::event::Event;
+use model::levels::{lookup_levels, step_levels, Level};
 use model::mapping::records;
 use model::replay::lines;
 use model::stream::{finish, take, Reader};
@@ -422,4 +424,97 @@ fn fragments_of_logs() {
         events += got.len();
     }
     assert!(events > 20_000, "{events} events");
+}
+
+/// Two levels against the tuned steps of each table alone: accepted if both are, and
+/// else neither is written.
+#[test]
+fn two_levels() {
+    println!("seed {SEED}");
+    let mut rng = Rng::new(SEED);
+    let mut reached = [0; 3];
+    for number in 0..20_000 {
+        let case = level_case(&mut rng);
+        let (context, event) = (&case.context, &case.event);
+        let before = case.levels.clone().map(|level| {
+            let new = vec![0xA5; level.new];
+            (level.tally.tally(), level.table, new)
+        });
+        let alone = before.clone().map(|(mut tally, table, mut new)| {
+            let (kinds, pcids) = (tally.kinds, &mut tally.pcids);
+            let (step, kinds) = tuned::counted_step(context, kinds, pcids, &table, event, &mut new);
+            tally.kinds = kinds;
+            (step, tally, new)
+        });
+        let [mut one, mut two] = before.clone();
+        let step = step_levels(
+            context,
+            event,
+            Level {
+                tally: &mut one.0,
+                table: &one.1,
+                new: &mut one.2,
+            },
+            Level {
+                tally: &mut two.0,
+                table: &two.1,
+                new: &mut two.2,
+            },
+        );
+        let at = || format!("seed {SEED}, case {number}\n{case:x?}\n{step:?}");
+        let refused = alone.iter().find(|(step, ..)| step.answer != 0);
+        if let Some((first, ..)) = refused {
+            assert_eq!(
+                (step.answer, step.rule),
+                (first.answer, first.rule),
+                "{}",
+                at()
+            );
+            assert!(step.context == *context && [one, two] == before, "{}", at());
+            let refused_first = alone[0].0.answer != 0;
+            reached[if refused_first { 1 } else { 2 }] += 1;
+        } else {
+            assert_eq!((step.answer, step.rule), (0, 0), "{}", at());
+            for ((own, (due, tally, new)), after) in
+                [one, two].iter().zip(&alone).zip([step.first, step.second])
+            {
+                assert_eq!((after.length, after.dropped), (due.length, due.dropped));
+                assert_eq!(step.context, due.context);
+                assert!(own.0 == *tally && own.2 == *new, "{}", at());
+            }
+            reached[0] += 1;
+        }
+    }
+    println!("accepted, refused for the first, for the second: {reached:?}");
+    assert!(reached.iter().all(|count| *count > 500));
+}
+
+/// The first translation of the first level, or else of the second, by the lookups of
+/// one table.
+#[test]
+fn lookups_in_two_levels() {
+    let mut rng = Rng::new(SEED);
+    let mut reached = [0; 3];
+    for _ in 0..20_000 {
+        let query = level_query(&mut rng);
+        let (context, [first, second]) = (&query.context, &query.tables);
+        let address = Address::Linear(query.address);
+        let (answer, found) = lookup_levels(context, first, second, query.address);
+        let answers = [first, second].map(|table| lookup(context, table, address, 0).0);
+        let refused = answers.into_iter().find(|answer| *answer != 0);
+        assert_eq!(answer, refused.unwrap_or(0));
+        let translations = |table: &Vec<u8>| -> Vec<std::ops::Range<usize>> {
+            let mut all = usable(context, table, address);
+            all.retain(|place| matches!(table[place.start], 1 | 3 | 7 | 8));
+            all
+        };
+        let due = match (refused, translations(first), translations(second)) {
+            (Some(_), ..) => None,
+            (_, one, _) if !one.is_empty() => Some((1, one[0].clone())),
+            (_, _, two) => two.first().map(|place| (2, place.clone())),
+        };
+        assert_eq!(found.map(|found| (found.level, found.place)), due);
+        reached[due.map_or(0, |(level, _)| level as usize)] += 1;
+    }
+    assert!(reached.iter().all(|count| *count > 500), "{reached:?}");
 }

@@ -47,6 +47,9 @@
 //! A context has a linear width, 48 or 57 bits. [`widen`] makes a table of the
 //! second sort from a stored one of the first.
 //!
+//! [`step_levels`] and [`lookup_levels`] are for two levels of TLB: a small table
+//! before the large one.
+//!
 //! A log need not be there whole: a [`Reader`] takes it in fragments, cut anywhere.
 //!
 //! [`judge`] says of another simulator's table whether an event may leave it, and
@@ -54,6 +57,7 @@
 
 mod claim;
 mod context;
+mod levels;
 mod logs;
 pub mod raw;
 mod reason;
@@ -63,10 +67,12 @@ mod walk;
 
 pub use claim::{judge, judge_flat, Judgement};
 pub use context::{Context, Place};
+pub use levels::{lookup_levels, lookup_levels_flat, step_levels, step_levels_flat};
+pub use levels::{Found, Level, LevelAfter, LevelStep};
 pub use logs::{event_length, events, lines, replay, replay_flat, Line, Replay};
 pub use raw::{
-    FlatContext, FlatFinished, FlatJudgement, FlatReason, FlatReplayed, FlatStep, FlatTaken,
-    FlatWalk, Kinds, Part, Reader, Row, Widened,
+    FlatContext, FlatFinished, FlatJudgement, FlatLevel, FlatLevelStep, FlatReason, FlatReplayed,
+    FlatStep, FlatTaken, FlatWalk, Kinds, LevelPart, Part, Reader, Row, Widened,
 };
 pub use reason::Reason;
 use std::ops::Range;

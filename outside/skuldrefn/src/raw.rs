@@ -157,6 +157,40 @@ pub struct FlatFinished {
     pub answer: u64,
 }
 
+/// What a step of both levels reports of one: the new table's length, the dropped
+/// count, and the counts by kind and span. On a refusal 0, 0 and the counts as they
+/// came.
+#[repr(C)]
+#[derive(Clone, Copy, Debug, PartialEq, Eq)]
+pub struct FlatLevel {
+    pub length: usize,
+    pub dropped: usize,
+    pub kinds: Kinds,
+}
+
+/// What a step of both levels reports. The answer is the first's, or the second's
+/// where that is 0.
+#[repr(C)]
+#[derive(Clone, Copy, Debug, PartialEq, Eq)]
+pub struct FlatLevelStep {
+    pub answer: u64,
+    pub rule: u64,
+    pub context: FlatContext,
+    pub first: FlatLevel,
+    pub second: FlatLevel,
+}
+
+/// What a lookup in both levels reports: the level that has the translation, 1 or 2,
+/// and its part of that table; or 0, 0 and 0.
+#[repr(C)]
+#[derive(Clone, Copy, Debug, PartialEq, Eq)]
+pub struct LevelPart {
+    pub answer: u64,
+    pub level: u64,
+    pub start: usize,
+    pub length: usize,
+}
+
 /// What a walk reports: how it ended, 0 to 6; the rule of a bad EPTP; the place
 /// where a ground was met; the entries read; and the record, all 0 where there
 /// is none.
@@ -283,6 +317,35 @@ extern "C" {
     ) -> FlatFinished;
 
     pub fn skuldrefn_reset_reader(reader: Reader) -> Reader;
+
+    pub fn skuldrefn_step_levels(
+        context: FlatContext,
+        event: *const u8,
+        event_length: usize,
+        kinds: Kinds,
+        pcids: *mut u16,
+        pcids_length: usize,
+        table: *const u8,
+        table_length: usize,
+        new_table: *mut u8,
+        new_length: usize,
+        second_kinds: Kinds,
+        second_pcids: *mut u16,
+        second_pcids_length: usize,
+        second_table: *const u8,
+        second_table_length: usize,
+        second_new: *mut u8,
+        second_new_length: usize,
+    ) -> FlatLevelStep;
+
+    pub fn skuldrefn_lookup_levels(
+        context: FlatContext,
+        first: *const u8,
+        first_length: usize,
+        second: *const u8,
+        second_length: usize,
+        address: u64,
+    ) -> LevelPart;
 
     pub fn skuldrefn_walk(
         context: FlatContext,

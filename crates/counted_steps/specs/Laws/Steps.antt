@@ -1,9 +1,10 @@
 -- The step beside a tally: with one that matches it is the plain step, and its counts are those of the table after it.
-use Prim.Native.Nat.{ℕ}
+use Prim.Native.Nat.{ℕ, _<_}
 use mathlib.Core.Bool.{Bool, true, false, cond, not, and-eq-true-iff}
 use mathlib.Core.List.{List, [], _∷_, _++_, append-assoc}
 use mathlib.Core.Path.{_≡_, refl, sym, ap, _∙_}
-use borrow.Author.Tests.{ne-eqb}
+use native.Mathlib.Omega.{arith}
+use borrow.Author.Tests.{ne-eqb, eqb-true, eqb-false}
 use lib.Dec.{eqb}
 use lib.ListN.{length}
 use Rattle.model.specs.declared.Context.{Context}
@@ -14,6 +15,7 @@ use Rattle.model.specs.Events.{event}
 use Rattle.model.specs.Answers.{first, valid-here, table-grounds, event-grounds, no-room, answer, grounds, rule-with}
 use Rattle.model.specs.Steps.{new-table, accepted-step, refused-step, stepped, written}
 use Rattle.laws.specs.Answers.{first-append, first-append-some, first-append-none}
+use Rattle.laws.specs.Rules.{table-answer-below-8}
 use Rattle.laws.specs.Tables.{records-valid}
 use Rattle.tallies.specs.Tallies.{Tallied, pcid-counts}
 use Rattle.tally_rows.specs.declared.KindCounts.{KindCounts}
@@ -22,7 +24,8 @@ use Rattle.tally_rows.specs.Laws.Compared.{same-refl, same-true}
 use Rattle.tally_rows.specs.Laws.Rows.{kind-counts-rows, same-kinds-refl, same-kinds-true}
 use Rattle.steps.specs.Counts.{records-after}
 use Rattle.counted_steps.specs.declared.CountedStep.{CountedStep}
-use Rattle.counted_steps.specs.Steps.{counted-grounds, counted-answer, counted-refusal, counted-stepped, counted-pcids, counted-written}
+use Rattle.counted_steps.specs.declared.Shown.{Shown}
+use Rattle.counted_steps.specs.Steps.{counted-grounds, counted-answer, Shows, counted-refusal, counted-stepped, counted-pcids, counted-written}
 
 module _ (c : Context) (kinds : List KindCounts) (pcids t e : List ℕ) (room : ℕ) where
   -- the grounds behind those of the table, and behind the tally's
@@ -41,14 +44,16 @@ module _ (c : Context) (kinds : List KindCounts) (pcids t e : List ℕ) (room : 
   pub counted-of-table : {n : ℕ} → n ≡ first (table-grounds c t) → (n ≡ 0 → ⊥) → counted-answer c kinds pcids t e room ≡ n
   counted-of-table is some = counted-split ∙ first-append-some (table-grounds c t) _ (λ z. some (is ∙ z)) ∙ sym is
 
+  pub counted-of-invalid : valid-here c e ≡ false → counted-answer c kinds pcids t e room ≡ first (table-grounds c t ++ ((4, true) ∷ []))
+  unfolding first
+  counted-of-invalid v =
+      counted-split
+      ∙ first-append (table-grounds c t) ((4, not (valid-here c e)) ∷ (13, not (matching kinds pcids (records t))) ∷ rest) ((4, true) ∷ []) (rw v)
+
   module _ (passes : first (table-grounds c t) ≡ 0) where
     past-table : counted-answer c kinds pcids t e room ≡ first ((4, not (valid-here c e)) ∷ (13, not (matching kinds pcids (records t))) ∷ rest)
     unfolding table-grounds
     past-table = counted-split ∙ first-append-none (table-grounds c t) _ refl passes
-
-    pub counted-of-invalid : valid-here c e ≡ false → counted-answer c kinds pcids t e room ≡ 4
-    unfolding first
-    counted-of-invalid v = past-table ∙ rw v
 
     pub counted-of-other : valid-here c e ≡ true → matching kinds pcids (records t) ≡ false → counted-answer c kinds pcids t e room ≡ 13
     unfolding first
@@ -62,6 +67,28 @@ module _ (c : Context) (kinds : List KindCounts) (pcids t e : List ℕ) (room : 
       ∙ first-append (table-grounds c t) ((4, not (valid-here c e)) ∷ (13, not (matching kinds pcids (records t))) ∷ rest) ((4, not (valid-here c e)) ∷ rest) (rw match)
       ∙ sym split
 
+-- an event that is not valid is answered 1 to 3, of the context and the table, else 4
+module _ (c : Context) (t : List ℕ) where
+  pub invalid-of-table : {n : ℕ} → n ≡ first (table-grounds c t) → (n ≡ 0 → ⊥) → n ≡ first (table-grounds c t ++ ((4, true) ∷ []))
+  invalid-of-table is some = is ∙ sym (first-append-some (table-grounds c t) ((4, true) ∷ []) (λ z. some (is ∙ z)))
+
+  pub invalid-is-4 : first (table-grounds c t) ≡ 0 → 4 ≡ first (table-grounds c t ++ ((4, true) ∷ []))
+  unfolding first table-grounds
+  invalid-is-4 passes = sym (first-append-none (table-grounds c t) ((4, true) ∷ []) refl passes)
+
+pub invalid-refused : (c : Context) (t : List ℕ) → (first (table-grounds c t ++ ((4, true) ∷ [])) ≡ 0 → ⊥) × (first (table-grounds c t ++ ((4, true) ∷ [])) < 8)
+invalid-refused c t = go (eqb (first (table-grounds c t)) 0) refl
+  where
+    go : (b : Bool) → eqb (first (table-grounds c t)) 0 ≡ b
+        → (first (table-grounds c t ++ ((4, true) ∷ [])) ≡ 0 → ⊥) × (first (table-grounds c t ++ ((4, true) ∷ [])) < 8)
+    go true is =
+        let four = invalid-is-4 c t (eqb-true (first (table-grounds c t)) 0 is) in
+        (λ z. omega (arith, four, z), omega (arith, four))
+    go false is =
+        let some = eqb-false (first (table-grounds c t)) 0 is in
+        let same = invalid-of-table c t refl some in
+        (λ z. some (same ∙ z), rw (sym same) (table-answer-below-8 c t))
+
 -- ---- a tally that matches has the counts
 
 module _ (kinds : List KindCounts) (pcids : List ℕ) (rs : List (List ℕ)) where
@@ -74,6 +101,22 @@ module _ (kinds : List KindCounts) (pcids : List ℕ) (rs : List (List ℕ)) whe
   pub counts-matching : kinds ≡ kind-counts rs → pcids ≡ pcid-counts rs → matching kinds pcids rs ≡ true
   unfolding matching
   counts-matching is are = rw (is, are, same-kinds-refl, same-refl)
+
+-- ---- what a table beside its tally shows
+
+module _ (c : Context) (kinds : List KindCounts) (pcids t e : List ℕ) (room : ℕ) where
+  pub shown-refused : {n : ℕ} → counted-answer c kinds pcids t e room ≡ n → (n ≡ 0 → ⊥) → 0 ≡ rule-with c e n
+      → {r : Shown} → (r .answer ≡ n) × (r .rule ≡ 0) → Shows c kinds pcids t e room r
+  shown-refused is some rule told =
+      record {
+        answer = told .0 ∙ sym is;
+        rule = told .1 ∙ rule ∙ ap (rule-with c e) (sym (told .0));
+        passed = λ zero. absurd (some (sym (told .0) ∙ zero));
+      }
+
+  -- an accepted event is one for the plain step
+  pub shown-accepted : {r : Shown} → Shows c kinds pcids t e room r → r .answer ≡ 0 → answer c t e room ≡ 0
+  shown-accepted shows zero = sym (counted-answer-matching c kinds pcids t e room (shows .passed zero .match)) ∙ sym (shows .answer) ∙ zero
 
 -- ---- with a tally that matches, the step is the plain one
 
@@ -116,7 +159,7 @@ module _ (c : Context) (kinds : List KindCounts) (pcids t e b : List ℕ) where
   Steps r pcids′ b′ =
       (r ≡ counted-stepped c kinds pcids t e room) × ((pcids′ ≡ counted-pcids c kinds pcids t e room) × (b′ ≡ counted-written c kinds pcids t e b))
 
-  pub counted-step-refused : {n : ℕ} → counted-answer c kinds pcids t e room ≡ n → (n ≡ 0 → ⊥) → 0 ≡ rule-with c e n → {r : CountedStep} → r ≡ counted-refusal n c kinds → Steps r pcids b
+  pub counted-step-refused : {n : ℕ} → counted-answer c kinds pcids t e room ≡ n → (n ≡ 0 → ⊥) → {k : ℕ} → k ≡ rule-with c e n → {r : CountedStep} → r ≡ counted-refusal n k c kinds → Steps r pcids b
   unfolding counted-stepped counted-pcids counted-written refused-step
   counted-step-refused {n} is some rule told =
       let other : eqb n 0 ≡ false = ne-eqb n 0 some in

@@ -1,10 +1,12 @@
 -- Each of the two sorts of address has its own function.
+use mathlib.Core.Bool.{true}
 use borrow.Author.Needs.{needs}
+use Rattle.lookups.specs.Laws.Seeking.{every-set, every-linear}
 use Rattle.lookups.proofs.sought_at.Statement.{statement}
 use Rattle.lookups.proofs.sought_at.Tie as tie
 
 returns : tie.Need-returns
-returns c = rw (c .before .before .a .given .1) (c .sought-at-linear .ensures)
+returns c = rw (c .before .before .a .given .1) (every-linear _ _ (c .sought-at-linear .ensures (λ k. true) every-set))
 
 returns-2 : tie.Need-returns-2
 returns-2 c = rw (c .before .before .a2 .given .1) (c .sought-at-guest-physical .ensures)

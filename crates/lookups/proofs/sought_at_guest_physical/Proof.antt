@@ -7,12 +7,12 @@ use Rattle.lookups.proofs.sought_at_guest_physical.Statement.{statement
 use Rattle.lookups.proofs.sought_at_guest_physical.Tie as tie
 
 returns : tie.Need-returns
-returns c = seeks-nothing _ _ _ (c .nothing .ensures) (too-high _ _ (le-ltb _ _ (c .before .if1 .taken)))
+returns c = seeks-nothing _ _ (c .nothing .ensures) (too-high _ _ (le-ltb _ _ (c .before .if1 .taken)))
 
 returns-2 : tie.Need-returns-2
 returns-2 c =
     let off = sym (c .before .before .before .ept .ensures) ∙ c .before .enum-told .given .1 in
-    seeks-nothing _ _ _ (c .nothing2 .ensures) (ept-off _ _ off)
+    seeks-nothing _ _ (c .nothing2 .ensures) (ept-off _ _ off)
 
 returns-3 : tie.Need-returns-3
 returns-3 c =

@@ -1,13 +1,12 @@
 -- What a lookup asks, as data, finds exactly the usable records.
 use Prim.Native.Nat.{ℕ}
-use mathlib.Core.Bool.{Bool, true, false, cond, not, _&&_, _||_, and-true, and-false}
+use mathlib.Core.Bool.{Bool, true, false, cond, not, _&&_, _||_, and-true, and-false, and-eq-true-iff}
 use mathlib.Core.List.{List}
 use mathlib.Core.Path.{_≡_, refl, sym, ap, _∙_}
 use borrow.Author.Tests.{eq-eqb, not-true}
 use lib.Dec.{eqb}
 use Rattle.model.specs.declared.Context.{Context}
 use Rattle.model.specs.declared.Ept.the-variants.{Off, On}
-use Rattle.model.specs.declared.Address.{Address}
 use Rattle.model.specs.declared.Address.the-variants.{Linear, GuestPhysical}
 use Rattle.model.specs.declared.Mapping.{Mapping}
 use Rattle.model.specs.Bits.{bit, number}
@@ -19,7 +18,7 @@ use Rattle.model.specs.Lookups.{translates-linear, usable}
 use Rattle.laws.specs.Layouts.{at-rows, of-mapping-kind, agrees, agrees-true, lacks-field, field-lacks}
 use Rattle.laws.specs.Mappings.{vpid-held, pcid-held}
 use Rattle.lookups.specs.declared.Sought.{Sought}
-use Rattle.lookups.specs.Search.{kinds-with, of-kind-and-vpid, of-pcid-and-ep4ta, seeks, AsksForUsable}
+use Rattle.lookups.specs.Search.{kinds-with, of-kind-and-vpid, of-pcid-and-ep4ta, seeks, AsksFor, usable-of, Sets}
 
 -- ---- kinds and their fields
 
@@ -47,6 +46,14 @@ module _ (r : List ℕ) (held : Held r) where
       let other = not-true (guest-physical (mapping r .kind)) (rw is at (of-held (λ k. cond (sort k) (not (guest-physical k)) true) all)) in
       sym (vpid-held r held ∙ rw other)
 
+  linear-vpid : (wanted : Bool) → (linear (mapping r .kind) && wanted) ≡ true → number 2 1 r ≡ mapping r .vpid
+  unfolding linear guest-physical
+  linear-vpid wanted is = own-vpid linear refl (and-eq-true-iff (linear (mapping r .kind)) wanted .0 is .0)
+
+  combined-vpid : (wanted : Bool) → (combined (mapping r .kind) && wanted) ≡ true → number 2 1 r ≡ mapping r .vpid
+  unfolding combined guest-physical
+  combined-vpid wanted is = own-vpid combined refl (and-eq-true-iff (combined (mapping r .kind)) wanted .0 is .0)
+
   -- a guest-physical mapping has no PCID, and a linear one no EP4TA
   no-pcid : guest-physical (mapping r .kind) ≡ true → mapping r .pcid ≡ 0
   no-pcid is = pcid-held r held ∙ rw is
@@ -65,11 +72,11 @@ abbrev asking : ℕ → ℕ → ℕ → ℕ → ℕ → ℕ → Sought
 asking vpid kinds others pcid ep4ta page =
     record { vpid = vpid; kinds = kinds; others = others; pcid = pcid; ep4ta = ep4ta; page = page }
 
--- no kind is asked for, and no record is usable
-pub seeks-nothing : (c : Context) (a : Address) (s : Sought) → (s .kinds ≡ 0) × (s .others ≡ 0) → ((m : Mapping) → usable c a m ≡ false) → AsksForUsable c a s
+-- no kind is asked for, and the test holds of no record
+pub seeks-nothing : (p : Mapping → Bool) (s : Sought) → (s .kinds ≡ 0) × (s .others ≡ 0) → ((m : Mapping) → p m ≡ false) → AsksFor p s
 unfolding seeks of-kind-and-vpid kinds-with
-seeks-nothing c a s none unusable =
-    record { same = λ r held. rw (none .0, none .1, cond-same, set-of r held 0 (λ k. false) refl) (sym (unusable (mapping r))) }
+seeks-nothing p s none never =
+    record { same = λ r held. rw (none .0, none .1, cond-same, set-of r held 0 (λ k. false) refl) (sym (never (mapping r))) }
 
 -- the tests in the order of the code and in that of the definition; the VPID counts for kinds that have one
 in-order : (kind covers vpid bytes pcid ep4ta : Bool) → (kind ≡ true → bytes ≡ vpid)
@@ -100,34 +107,73 @@ without-ep4ta kind covers vpid bytes pcid ep4ta own none =
     go true holds = holds refl
     go false holds = refl
 
+-- the same where the kind is also to be wanted
+of-wanted : (kind own covers vpid bytes pcid ep4ta : Bool) → ((kind && own) ≡ true → bytes ≡ vpid)
+    → ((kind && own) && bytes && covers && (pcid && ep4ta)) ≡ ((true && covers && vpid && pcid && (kind && ep4ta)) && own)
+of-wanted kind own covers vpid bytes pcid ep4ta holds = in-order (kind && own) covers vpid bytes pcid ep4ta holds ∙ go covers vpid pcid
+  where
+    last : (k e : Bool) → ((k && own) && e) ≡ ((k && e) && own)
+    last true true = and-true own
+    last true false = and-false own
+    last false e = refl
+
+    go : (c v p : Bool) → (true && c && v && p && ((kind && own) && ep4ta)) ≡ ((true && c && v && p && (kind && ep4ta)) && own)
+    go true true true = last kind ep4ta
+    go true true false = refl
+    go true false p = refl
+    go false v p = refl
+
+of-wanted-without-ep4ta : (kind own covers vpid bytes pcid ep4ta : Bool) → ((kind && own) ≡ true → bytes ≡ vpid) → ((kind && own) ≡ true → ep4ta ≡ true)
+    → ((kind && own) && bytes && covers && (pcid && ep4ta)) ≡ ((true && covers && vpid && pcid && kind) && own)
+of-wanted-without-ep4ta kind own covers vpid bytes pcid ep4ta holds none =
+    without-ep4ta (kind && own) covers vpid bytes pcid ep4ta holds none ∙ go covers vpid pcid
+  where
+    go : (c v p : Bool) → (true && c && v && p && (kind && own)) ≡ ((true && c && v && p && kind) && own)
+    go true true true = refl
+    go true true false = refl
+    go true false p = refl
+    go false v p = refl
+
+-- the kinds that any lookup asks for
+pub every-set : Sets (λ k. true) 0x292 0x548
+unfolding linear combined
+every-set = record { linears = refl; combineds = refl }
+
 module _ (c : Context) (address : ℕ) where
-  pub not-canonical : canonical (c .«linear_width») address ≡ false → (m : Mapping) → usable c (Linear address) m ≡ false
-  unfolding usable
-  not-canonical is m = rw is
+  module _ (wanted : ℕ → Bool) where
+    pub not-canonical : canonical (c .«linear_width») address ≡ false → (m : Mapping) → usable-of wanted c (Linear address) m ≡ false
+    unfolding usable
+    not-canonical is m = rw is
 
-  pub seeks-linear : canonical (c .«linear_width») address ≡ true → current-ept (c .place) ≡ Off
-      → AsksForUsable c (Linear address) (asking (current-vpid (c .place)) 0x292 0 (c .pcid) 0 (page-of (c .«linear_width») address))
-  unfolding seeks of-kind-and-vpid kinds-with of-pcid-and-ep4ta usable translates-linear linear guest-physical
-  seeks-linear canonically off =
-      record {
-        same = λ r held.
-            let vpid = current-vpid (c .place) in
-            rw (canonically, off, one-vpid r held 0x292, set-of r held 0x292 linear refl)
-            (without-ep4ta (linear (mapping r .kind)) _ _ _ _ _
-            (λ is. ap (λ (n : ℕ). eqb n vpid) (own-vpid r held linear refl is))
-            (λ is. eq-eqb (mapping r .ep4ta) 0 (no-ep4ta r held is)));
-      }
+    module _ (linears combineds : ℕ) (sets : Sets wanted linears combineds) (canonically : canonical (c .«linear_width») address ≡ true) where
+      pub seeks-linear : current-ept (c .place) ≡ Off
+          → AsksFor (usable-of wanted c (Linear address)) (asking (current-vpid (c .place)) linears 0 (c .pcid) 0 (page-of (c .«linear_width») address))
+      unfolding seeks of-kind-and-vpid kinds-with of-pcid-and-ep4ta usable translates-linear
+      seeks-linear off =
+          record {
+            same = λ r held.
+                let vpid = current-vpid (c .place) in
+                rw (canonically, off, one-vpid r held linears, set-of r held linears (λ k. linear k && wanted k) (sets .linears))
+                (of-wanted-without-ep4ta (linear (mapping r .kind)) (wanted (mapping r .kind)) _ _ _ _ _
+                (λ is. ap (λ (n : ℕ). eqb n vpid) (linear-vpid r held (wanted (mapping r .kind)) is))
+                (λ is. eq-eqb (mapping r .ep4ta) 0 (no-ep4ta r held (and-eq-true-iff (linear (mapping r .kind)) (wanted (mapping r .kind)) .0 is .0))));
+          }
 
-  pub seeks-combined : (ep4ta : ℕ) → canonical (c .«linear_width») address ≡ true → current-ept (c .place) ≡ On ep4ta
-      → AsksForUsable c (Linear address) (asking (current-vpid (c .place)) 0x548 0 (c .pcid) ep4ta (page-of (c .«linear_width») address))
-  unfolding seeks of-kind-and-vpid kinds-with of-pcid-and-ep4ta usable translates-linear combined guest-physical
-  seeks-combined ep4ta canonically on =
-      record {
-        same = λ r held.
-            let vpid = current-vpid (c .place) in
-            rw (canonically, on, one-vpid r held 0x548, set-of r held 0x548 combined refl)
-            (in-order (combined (mapping r .kind)) _ _ _ _ _ (λ is. ap (λ (n : ℕ). eqb n vpid) (own-vpid r held combined refl is)));
-      }
+      pub seeks-combined : (ep4ta : ℕ) → current-ept (c .place) ≡ On ep4ta
+          → AsksFor (usable-of wanted c (Linear address)) (asking (current-vpid (c .place)) combineds 0 (c .pcid) ep4ta (page-of (c .«linear_width») address))
+      unfolding seeks of-kind-and-vpid kinds-with of-pcid-and-ep4ta usable translates-linear
+      seeks-combined ep4ta on =
+          record {
+            same = λ r held.
+                let vpid = current-vpid (c .place) in
+                rw (canonically, on, one-vpid r held combineds, set-of r held combineds (λ k. combined k && wanted k) (sets .combineds))
+                (of-wanted (combined (mapping r .kind)) (wanted (mapping r .kind)) _ _ _ _ _
+                (λ is. ap (λ (n : ℕ). eqb n vpid) (combined-vpid r held (wanted (mapping r .kind)) is)));
+          }
+
+  -- every kind is wanted
+  pub every-linear : {s : Sought} → AsksFor (usable-of (λ k. true) c (Linear address)) s → AsksFor (usable c (Linear address)) s
+  every-linear asks = record { same = λ r held. asks .same r held ∙ and-true (usable c (Linear address) (mapping r)) }
 
   pub too-high : guest-physical-in-range address ≡ false → (m : Mapping) → usable c (GuestPhysical address) m ≡ false
   unfolding usable
@@ -138,7 +184,7 @@ module _ (c : Context) (address : ℕ) where
   ept-off off m = rw (off, and-false)
 
   pub seeks-guest-physical : (ep4ta : ℕ) → guest-physical-in-range address ≡ true → current-ept (c .place) ≡ On ep4ta
-      → AsksForUsable c (GuestPhysical address) (asking 0 0x24 0x24 0 ep4ta (guest-physical-page-of address))
+      → AsksFor (usable c (GuestPhysical address)) (asking 0 0x24 0x24 0 ep4ta (guest-physical-page-of address))
   unfolding seeks of-kind-and-vpid kinds-with of-pcid-and-ep4ta usable guest-physical
   seeks-guest-physical ep4ta within on =
       record {

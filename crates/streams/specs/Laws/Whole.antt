@@ -53,9 +53,8 @@ module _ (s : CountedRun) (e : List ℕ) (invalid : valid-event (s .run .context
   t = s .run .table
 
   invalid-answer : (room : ℕ) → counted-answer c (s .kinds) (s .pcids) t e room ≡ cut-answer c t
-  invalid-answer room =
-      by-answer (first (table-grounds c t)) (λ none. counted-of-invalid c (s .kinds) (s .pcids) t e room none invalid ∙ sym (cut-answer-none c t none))
-      (λ some. counted-of-table c (s .kinds) (s .pcids) t e room refl some ∙ sym (cut-answer-some c t some))
+  unfolding cut-answer
+  invalid-answer room = counted-of-invalid c (s .kinds) (s .pcids) t e room invalid
 
   pub invalid-result : counted-result s e ≡ record { step = refusal (cut-answer c t) 0 c; kinds = s .kinds }
   unfolding counted-result counted-stepped refused-step

@@ -1,0 +1,2 @@
+-- The step of two tables, by its answer.
+pub mod Levels
