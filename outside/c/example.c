@@ -1,8 +1,8 @@
 /*
  * Document 01's five events as a log, which is cut into its events, one step
- * each, with a tally; a lookup, a fresh count, a conversion, a reason and two claims
- * between them. Then the same log in fragments, two levels of TLB, and in the end a
- * walk of page tables.
+ * each, with a tally; a lookup, a fresh count, a conversion, a fixed row, a reason
+ * and two claims between them. Then the same log in fragments, two levels of TLB, and
+ * in the end a walk of page tables.
  *
  *     cc -I outside/c outside/c/example.c target/staticlib/libskuldrefn.a
  */
@@ -37,6 +37,10 @@ static skuldrefn_tally fresh = {0};
 
 /* A table for 57-bit linear addresses. */
 static uint8_t wide[SKULDREFN_TABLE_LIMIT];
+
+/* The record just created as a fixed row, and that row as a table again. */
+static skuldrefn_fixed_row row;
+static uint8_t again[SKULDREFN_TABLE_LIMIT];
 
 /*
  * One table that all levels share, the guest's and EPT's: entry 0 points at itself,
@@ -127,6 +131,16 @@ int main(void)
                 buffers[in_force], length, wide, sizeof wide);
             printf("at 57 bits: %zu bytes\n", widened.length);
             wrong |= widened.answer != SKULDREFN_ACCEPTED || wide[0] != SKULDREFN_KIND_LINEAR_57;
+
+            /* The same table as a viewer reads it, and back. */
+            skuldrefn_converted exported = skuldrefn_export(
+                context.linear_width, buffers[in_force], length, (uint8_t *)&row, sizeof row);
+            skuldrefn_converted imported = skuldrefn_import(
+                context.linear_width, (const uint8_t *)&row, sizeof row, again, sizeof again);
+            printf("as a row: page %" PRIx64 "h, frame %" PRIx64 "h\n", row.page, row.frame);
+            wrong |= exported.answer != SKULDREFN_ACCEPTED || exported.length != sizeof row
+                || imported.answer != SKULDREFN_ACCEPTED || imported.length != length
+                || memcmp(again, buffers[in_force], length) != 0;
         }
         event += event_length;
     }

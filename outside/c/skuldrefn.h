@@ -10,14 +10,15 @@
  * nothing: no pointer, no copy, no state. Nothing is allocated. So calls from
  * several threads do not disturb each other if their buffers do not.
  *
- * Buffers that are written (new_table, pcids, second_new, second_pcids, and first,
- * second and rows of skuldrefn_replay) may overlap no other buffer of the same
- * call. A pointer may be null if its length is 0. Any other pointer must be good
- * for its length. Bytes need no alignment; pcids is aligned as uint16_t is, and its
- * length is the number of counts.
+ * Buffers that are written (new_table, pcids, second_new, second_pcids, first,
+ * second and rows of skuldrefn_replay, rows of skuldrefn_export and the table of
+ * skuldrefn_import) may overlap no other buffer of the same call. A pointer may be
+ * null if its length is 0. Any other pointer must be good for its length. Bytes need
+ * no alignment; pcids is aligned as uint16_t is, and its length is the number of
+ * counts.
  *
  * Every other input is answered: any number in any field or count, any bytes in
- * a table, a record, an event, a log or an image, and any length of a buffer.
+ * a table, a record, an event, a log, rows or an image, and any length of a buffer.
  *
  * What the model does, rule by rule, is in docs/MODEL.md. A record or an event
  * is one byte of kind, then a body whose fields and length the kind fixes;
@@ -49,6 +50,9 @@ extern "C" {
 
 /* The bytes of one row that skuldrefn_replay writes. */
 #define SKULDREFN_ROW 24
+
+/* The bytes of one fixed row, of skuldrefn_export and skuldrefn_import. */
+#define SKULDREFN_FIXED_ROW 32
 
 /*
  * What the replay program has: its IA32_VMX_EPT_VPID_CAP, bits 6, 8, 14, 20,
@@ -119,16 +123,19 @@ enum {
 /*
  * The answers. The lowest number that applies is given, and only then; but 13 goes
  * after 4 and before 5. skuldrefn_step gives 0 to 13, skuldrefn_plain_step 0 to 12,
- * skuldrefn_count 0, 2, 3 or 13, a lookup 0 to 3, skuldrefn_widen 0, 2, 3 or 12. A
- * refusal that skuldrefn_explain names is 1 or 3 to 11, one that skuldrefn_judge
- * names 1 to 12.
+ * skuldrefn_count 0, 2, 3 or 13, a lookup 0 to 3, skuldrefn_widen 0, 2, 3 or 12,
+ * skuldrefn_export 0, 1, 2, 3 or 12, skuldrefn_import 0, 1, 4 or 12. A refusal that
+ * skuldrefn_explain names is 1 or 3 to 11, one that skuldrefn_judge names 1 to 12.
  */
 enum {
     SKULDREFN_ACCEPTED = 0,      /* none of the others applies */
-    SKULDREFN_BAD_CONTEXT = 1,   /* a context field is out of its range */
+    SKULDREFN_BAD_CONTEXT = 1,   /* a context field is out of its range; or the
+                                    linear width that goes with rows is */
     SKULDREFN_LONG_TABLE = 2,    /* the table is longer than 47,104 bytes */
     SKULDREFN_BAD_TABLE = 3,     /* the table is not whole, valid records */
-    SKULDREFN_BAD_EVENT = 4,     /* the event is not exactly one valid record */
+    SKULDREFN_BAD_EVENT = 4,     /* the event is not exactly one valid record; or
+                                    rows are not whole, or one is bad, for
+                                    skuldrefn_import */
     SKULDREFN_UD = 5,            /* #UD: INVVPID, INVEPT, VM entry or VMXOFF
                                     outside VMX; INVVPID without capability
                                     bit 32, INVEPT without bit 20 */
@@ -147,7 +154,9 @@ enum {
     SKULDREFN_NO_ROOM = 12,      /* the new buffer, or 47,104, is less than the
                                     old table's length, plus the record's for
                                     a creation; or than the new table's, for
-                                    skuldrefn_widen */
+                                    skuldrefn_widen and skuldrefn_import; or
+                                    the buffer is less than the rows, for
+                                    skuldrefn_export */
     SKULDREFN_BAD_TALLY = 13     /* the tally is not that of the old table, or
                                     it has not 4,096 counts for PCIDs */
 };
@@ -653,6 +662,75 @@ typedef struct {
 skuldrefn_widened skuldrefn_widen(
     const uint8_t *table, size_t table_length,
     uint8_t *new_table, size_t new_length);
+
+/*
+ * A fixed row: one record of a table in 32 bytes, with each field at one place
+ * whatever the kind, for a program that shows tables. In each comment: the byte at
+ * which the field starts, from 0. Numbers are little-endian, so that on x86-64 this
+ * struct is the row's bytes. What a kind does not use is 0: global for all but kinds
+ * 1, 3, 7 and 8, VPID and PCID for 2 and 5, EP4TA for 1, 4, 7 and 9, zero always.
+ */
+typedef struct {
+    uint8_t kind;   /* 0 */
+    uint8_t span;   /* 1 */
+    uint8_t global; /* 2 */
+    uint8_t zero;   /* 3 */
+    uint16_t vpid;  /* 4 */
+    uint16_t pcid;  /* 6 */
+    uint64_t page;  /* 8 */
+    uint64_t frame; /* 16, or the structure */
+    uint64_t ep4ta; /* 24 */
+} skuldrefn_fixed_row;
+
+/* What skuldrefn_export and skuldrefn_import report. */
+typedef struct {
+    uint64_t answer; /* export: 0, 1, 2, 3 or 12; import: 0, 1, 4 or 12 */
+    uint64_t row;    /* of import with 4: the number, from 1, of the first bad row,
+                        0 for a bad length; else 0 */
+    size_t length;   /* of what was written, in bytes; 0 with a refusal */
+} skuldrefn_converted;
+
+/*
+ * A table as fixed rows: one for each record, in the table's order.
+ *
+ * linear_width: that of the table, 48 or 57.
+ * table, table_length: the table; it is only read.
+ * rows, rows_length: where the rows are written, from the start. Bytes past them
+ * stay as they were. 32 bytes are needed for each record; 94,208 bytes are always
+ * enough.
+ *
+ * The answer is 1 if the linear width is neither 48 nor 57; 2 if the table is longer
+ * than 47,104 bytes; 3 if it is not whole, valid records of that linear width; 12 if
+ * the rows are longer than the buffer; else 0. With another answer than 0 nothing is
+ * written and the length is 0.
+ */
+skuldrefn_converted skuldrefn_export(
+    uint64_t linear_width,
+    const uint8_t *table, size_t table_length,
+    uint8_t *rows, size_t rows_length);
+
+/*
+ * The table of fixed rows: one record for each, in their order. No rows are an empty
+ * table. What skuldrefn_export wrote gives the same table again, and what is written
+ * here the same rows.
+ *
+ * linear_width: that of the table, 48 or 57.
+ * rows, rows_length: the rows, end to end; they are only read.
+ * table, table_length: where the table is written, from the start. Bytes past its
+ * length stay as they were. A buffer of 47,104 bytes is always enough for rows that
+ * can be imported.
+ *
+ * The answer is 1 if the linear width is neither 48 nor 57; 4 if rows_length is not
+ * a multiple of 32, with row 0; 4 if a row names no valid record of that linear width
+ * or has a bit set in what its kind does not use, with the number, from 1, of the
+ * first such row; 12 if the table is longer than 47,104 bytes or than the buffer;
+ * else 0. Every row is judged before the room is. With another answer than 0 nothing
+ * is written and the length is 0.
+ */
+skuldrefn_converted skuldrefn_import(
+    uint64_t linear_width,
+    const uint8_t *rows, size_t rows_length,
+    uint8_t *table, size_t table_length);
 
 /* What a claimed table is judged as: accepted, or the first ground against it. */
 enum {

@@ -1,6 +1,7 @@
 // The model for programs in C and Rust: functions on numbers, byte slices and flat structs. A context
 // is handed in as numbers; a place or EPT number that stands for nothing is answered 1.
 use claims::Judgement;
+use fixed_rows::Converted;
 use flat_contexts::FlatContext;
 use flat_fragments::FlatFinished;
 use flat_fragments::FlatReader;
@@ -17,6 +18,7 @@ use widening::Widened;
 ghost use mathlib.Core.Path.{_≡_};
 ghost use lib.ListN.{length};
 ghost use Rattle.widening.specs.Widening.{widening, widening-written};
+ghost use Rattle.fixed_rows.specs.FixedRows.{exporting, exporting-written, importing, importing-written};
 ghost use Rattle.logs.specs.Logs.{told-length};
 ghost use Rattle.tables.specs.Counts.{table-pcid-counts};
 ghost use Rattle.level_steps.specs.Levels.{handed};
@@ -259,6 +261,26 @@ pub extern "C" fn skuldrefn_widen(table: &[u8], new: &mut [u8]) -> Widened
     ensures { λ _. ⌜ now (new .exit) ≡ widening-written (now (table .entry)) (now (new .entry)) ⌝ }
 {
     widening::widen(table, new)
+}
+
+// Writes the rows of a table, 32 bytes for each record: the answer, 1, 2, 3 or 12, row 0, and how long the rows are. A
+// refusal writes nothing.
+#[no_mangle]
+pub extern "C" fn skuldrefn_export(linear_width: u64, table: &[u8], rows: &mut [u8]) -> Converted
+    ensures { λ r. ⌜ r ≡ exporting «linear_width» (now (table .entry)) (length (now (rows .entry))) ⌝ }
+    ensures { λ _. ⌜ now (rows .exit) ≡ exporting-written «linear_width» (now (table .entry)) (now (rows .entry)) ⌝ }
+{
+    fixed_rows::export(linear_width, table, rows)
+}
+
+// Writes the table that rows make: the answer, 1, 4 or 12; the number of the first bad row, from 1, where that is the
+// ground, else 0; and the length of the table. A refusal writes nothing.
+#[no_mangle]
+pub extern "C" fn skuldrefn_import(linear_width: u64, rows: &[u8], table: &mut [u8]) -> Converted
+    ensures { λ r. ⌜ r ≡ importing «linear_width» (now (rows .entry)) (length (now (table .entry))) ⌝ }
+    ensures { λ _. ⌜ now (table .exit) ≡ importing-written «linear_width» (now (rows .entry)) (now (table .entry)) ⌝ }
+{
+    fixed_rows::import(linear_width, rows, table)
 }
 
 // Judges a claimed table after an event: 0, it is an in-order part of what the step leaves; 1, the step is refused, with

@@ -10,7 +10,7 @@ ghost use Rattle.valid_records.specs.Ranges.{pcid-and-mark-in-range};
 ghost use Rattle.valid_records.specs.Lengths.{length-at};
 
 // The page has so many bits at most, and is a multiple of the span's pages.
-fn is_page(bits: u64, span: u64, page: u64) -> bool
+pub fn is_page(bits: u64, span: u64, page: u64) -> bool
     requires { ⌜ bits < 64 ⌝ }
     requires { ⌜ span ≤ 4 ⌝ }
     ensures { λ r. ⌜ r ≡ (ltb page (2 ^ bits) && eqb (page % 2 ^ (9 * span)) 0) ⌝ }

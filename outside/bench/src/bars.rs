@@ -14,6 +14,7 @@ const REPLAY_BARS: [(&str, f64); 4] = [
 const STEP_BAR: f64 = 1.05;
 const LOOKUP_BAR: f64 = 1.1;
 const COUNTED_BAR: f64 = 1.3;
+const FIXED_ROWS_BAR: f64 = 1.2;
 
 /// The bar of counted steps holds for tables of so many records and more.
 const COUNTED_FROM: usize = 176;
@@ -142,6 +143,7 @@ pub fn bars(rows: &[Row]) -> String {
         counted(rows),
         counted_on_empty(rows),
         levels(rows),
+        fixed_rows(rows),
         twice_the_records(rows),
     ]);
     bars.iter().map(Bar::print).collect()
@@ -197,8 +199,19 @@ fn levels(rows: &[Row]) -> Bar<'_> {
     }
 }
 
+fn fixed_rows(rows: &[Row]) -> Bar<'_> {
+    let about = "a full table as fixed rows, and back";
+    Bar::beside_tuned(about, FIXED_ROWS_BAR, full(rows, What::FixedRows))
+}
+
 fn twice_the_records(rows: &[Row]) -> Bar<'_> {
-    let all = [What::Step, What::Counted, What::Lookup, What::Widen];
+    let all = [
+        What::Step,
+        What::Counted,
+        What::Lookup,
+        What::FixedRows,
+        What::Widen,
+    ];
     let full = all.into_iter().flat_map(|what| full(rows, what));
     Bar {
         about: "twice the records (1,408 to 2,816)".to_string(),
@@ -243,8 +256,8 @@ mod tests {
     #[test]
     fn a_bar_of_nothing_is_missed() {
         let said = bars(&[]);
-        assert_eq!(said.matches("MISS").count(), 10, "{said}");
-        assert_eq!(said.matches("nothing was measured\n").count(), 10, "{said}");
+        assert_eq!(said.matches("MISS").count(), 11, "{said}");
+        assert_eq!(said.matches("nothing was measured\n").count(), 11, "{said}");
     }
 
     #[test]
@@ -303,6 +316,29 @@ mod tests {
         assert!(said.ends_with(due), "{said}");
         let said = counted_on_empty(&bad).print();
         assert!(said.starts_with("MISS"), "{said}");
+    }
+
+    /// Both ways on the fullest tables, each with its figure.
+    #[test]
+    fn bars_of_fixed_rows() {
+        let way = |family: &str, records, ours| Row {
+            family: family.to_string(),
+            ..row(What::FixedRows, records, [ours, 100.0, 1.0])
+        };
+        let good = [
+            way("export", 16, 900.0),
+            way("export", 2_816, 120.0),
+            way("import", 2_816, 90.0),
+        ];
+        let due = "pass  a full table as fixed rows, and back, beside the tuned model: at most \
+                   1.2 times; worst 1.200 (export; fixed rows, mixed kinds, 2816 records)\n";
+        assert_eq!(fixed_rows(&good).print(), due);
+        let bad = [way("export", 2_816, 110.0), way("import", 2_816, 121.0)];
+        let due = "MISS  a full table as fixed rows, and back, beside the tuned model: at most \
+                   1.2 times; worst 1.210 (import; fixed rows, mixed kinds, 2816 records)\n      \
+                   missed by 1 of 2\n      fixed rows, mixed kinds, 2816 records:\n        \
+                   1.210 import\n";
+        assert_eq!(fixed_rows(&bad).print(), due);
     }
 
     #[test]

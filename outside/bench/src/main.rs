@@ -2,6 +2,7 @@
 
 mod bars;
 mod counted;
+mod fixed_rows;
 mod levels;
 mod logs;
 mod lookups;
@@ -35,7 +36,8 @@ Calls take several tables of one shape and size in turn, 11,264 records in all,
 so that no table is learnt by heart. A creation on the fullest table finds one
 record fewer. The fullest tables of 48-bit addresses have 45,056 bytes, as they
 had before 57-bit addresses came; those of 57 bits go to the limit, and those
-that are converted have a few records fewer.
+that are converted have a few records fewer. Fixed rows are exported from a table,
+and the same rows imported; their plain copy is of what is read.
 A counted step has a tally besides, whose counts of PCIDs stand in one list that
 is made to match the next table before each call.
 A step of two levels is measured beside two counted steps of the library. Its
@@ -52,7 +54,7 @@ const PASSES: u32 = 12;
 /// How often in a row. Replays take longer, and each is many calls already.
 fn in_a_row(what: What) -> u32 {
     match what {
-        What::Step | What::Lookup | What::Widen => 3,
+        What::Step | What::Lookup | What::FixedRows | What::Widen => 3,
         What::Counted | What::Levels => 2,
         What::Replay => 1,
     }
@@ -195,6 +197,12 @@ fn items() -> Result<Vec<Item>, String> {
             items.push(widenings::item(&tables, &buffers)?);
         }
     }
+    let longer = Buffers::new(2 * TABLE_LIMIT);
+    for shape in [Shape::Scattered, Shape::Mixed, Shape::Wide] {
+        for tables in COUNTS.map(|count| tables::tables(shape, count)) {
+            items.extend(fixed_rows::items(&tables, &longer)?);
+        }
+    }
     for log in logs::logs() {
         items.push(replays::item(log, &buffers, &others)?);
     }
@@ -215,6 +223,7 @@ mod tests {
         assert_eq!(count(What::Levels), (2 * 6 + 4) * COUNTS.len());
         assert!(count(What::Lookup) > 30);
         assert_eq!(count(What::Widen), 2 * COUNTS.len());
+        assert_eq!(count(What::FixedRows), 2 * 3 * COUNTS.len());
         assert_eq!(count(What::Replay), 4);
     }
 }

@@ -26,11 +26,12 @@ const STYLES: [(&str, &str, &str); 3] = [
 ];
 
 /// The sections, in order.
-const SECTIONS: [(What, &str); 4] = [
+const SECTIONS: [(What, &str); 5] = [
     (What::Step, "Steps"),
     (What::Counted, "Counted steps: with a tally"),
     (What::Lookup, "Lookups"),
     (What::Widen, "The converter"),
+    (What::FixedRows, "Fixed rows"),
 ];
 
 /// The plot of one shape of table.
@@ -260,7 +261,7 @@ mod tests {
         assert_eq!(svg.matches(">reset<").count(), 2);
         assert!(svg.contains(">Steps<") && svg.contains(">Lookups<"));
         assert!(!svg.contains("INVLPG") && !svg.contains("creations only"));
-        assert!(!svg.contains("The converter"));
+        assert!(!svg.contains("The converter") && !svg.contains("Fixed rows"));
     }
 
     /// The axes have units, and end at or above the most that was measured.

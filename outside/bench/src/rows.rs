@@ -10,6 +10,8 @@ pub enum What {
     /// A step of two levels, each with a tally.
     Levels,
     Lookup,
+    /// A table as fixed rows, or rows as a table.
+    FixedRows,
     /// The converter of 48-bit tables.
     Widen,
     Replay,
@@ -22,6 +24,7 @@ impl What {
             What::Counted => "counted step",
             What::Levels => "step of two levels",
             What::Lookup => "lookup",
+            What::FixedRows => "fixed rows",
             What::Widen => "widen",
             What::Replay => "replay",
         }

@@ -115,6 +115,24 @@ pub fn widen(table: &[u8], new: &mut [u8]) -> model::Widened {
     }
 }
 
+/// A table as fixed rows.
+pub fn export(linear_width: u64, table: &[u8], rows: &mut [u8]) -> model::Converted {
+    converted(skuldrefn::export_rows(linear_width, table, rows))
+}
+
+/// Fixed rows as a table.
+pub fn import(linear_width: u64, rows: &[u8], table: &mut [u8]) -> model::Converted {
+    converted(skuldrefn::import_rows(linear_width, rows, table))
+}
+
+fn converted(converted: skuldrefn::Converted) -> model::Converted {
+    model::Converted {
+        answer: converted.answer,
+        row: converted.row,
+        length: converted.length,
+    }
+}
+
 /// A flat judgement as the model's; None for numbers that stand for none.
 pub fn judgement(flat: &FlatJudgement) -> Option<model::Judgement> {
     Some(match flat.judgement()? {

@@ -1,8 +1,8 @@
 //! The header and the example in C, built with `cc` if there is one.
 
-use common::{KINDS, LINEAR_WIDTHS};
+use common::{FIXED_ROW_FIELDS, KINDS, LINEAR_WIDTHS};
 use model::{LinearWidth, Reason};
-use skuldrefn::raw::{Counted, CountedStep, FlatWalk};
+use skuldrefn::raw::{Converted, Counted, CountedStep, FlatWalk};
 use skuldrefn::{FlatFinished, FlatJudgement, FlatLevel, FlatLevelStep, FlatTaken};
 use skuldrefn::{LevelPart, Reader};
 use std::env::temp_dir;
@@ -18,6 +18,7 @@ const PRINTED: &str = "\
 12345678h: the record just created
 records of PCID 1: 1
 at 57 bits: 18 bytes
+as a row: page 12345h, frame abcdeh
 4 0 0 17
 INVVPID: takes the record
 a table that keeps it: unmatched at byte 0
@@ -494,6 +495,110 @@ fn a_walk_in_c() {
     assert_eq!(sizes, due.map(|size| size.to_string()).join(" "));
 }
 
+/// Exports two records with every field of theirs, prints the rows, and imports them;
+/// then a refusal of each sort and where the fields of the structs are.
+const ROWS: &str = r#"
+#include "skuldrefn.h"
+#include <inttypes.h>
+#include <stdio.h>
+#include <string.h>
+
+static const uint8_t table[45] = {
+    8, 5, 6, 2, 1, 1, 2, 0, 0, 4, 0, 0, 0x1F, 1, 2, 3, 4, 0x85, 6, 7, 8, 9, 0x8A,
+    10, 0xFF, 0xFF, 0xFF, 0xF, 4, 0, 0, 0, 0, 0x10, 0, 0x11, 0x12, 0x13, 0x14, 0x95, 0x16, 0x17, 0x18, 0x19, 0x9A};
+static skuldrefn_fixed_row rows[3];
+static uint8_t again[47];
+
+static void say(skuldrefn_converted converted)
+{
+    printf("%d %d %d\n", (int)converted.answer, (int)converted.row, (int)converted.length);
+}
+
+int main(void)
+{
+    const uint8_t *bytes = (const uint8_t *)rows;
+
+    memset(again, 0xA5, sizeof again);
+    say(skuldrefn_export(57, table, 45, (uint8_t *)rows, 63));
+    say(skuldrefn_export(57, table, 45, (uint8_t *)rows, sizeof rows));
+    for (int i = 0; i < 3; i++) {
+        printf("%d %d %d %d %x %x %" PRIx64 " %" PRIx64 " %" PRIx64 "\n", rows[i].kind, rows[i].span,
+            rows[i].global, rows[i].zero, rows[i].vpid, rows[i].pcid, rows[i].page, rows[i].frame,
+            rows[i].ep4ta);
+    }
+    say(skuldrefn_import(57, bytes, 64, again, 44));
+    say(skuldrefn_import(57, bytes, 64, again, sizeof again));
+    printf("%d %x %x\n", memcmp(again, table, 45), again[45], again[46]);
+    say(skuldrefn_import(57, bytes, sizeof rows, again, 0));
+    say(skuldrefn_import(57, bytes, 65, again, 0));
+    say(skuldrefn_import(48, bytes, 64, again, 0));
+    say(skuldrefn_import(49, bytes, 65, again, 0));
+    say(skuldrefn_export(48, table, 45, NULL, 0));
+    say(skuldrefn_export(56, table, 45, NULL, 0));
+    say(skuldrefn_import(48, NULL, 0, NULL, 0));
+    printf("%zu %zu %zu %zu %zu %zu %zu %zu %zu %zu\n", sizeof(skuldrefn_fixed_row),
+        offsetof(skuldrefn_fixed_row, kind), offsetof(skuldrefn_fixed_row, span),
+        offsetof(skuldrefn_fixed_row, global), offsetof(skuldrefn_fixed_row, zero),
+        offsetof(skuldrefn_fixed_row, vpid), offsetof(skuldrefn_fixed_row, pcid),
+        offsetof(skuldrefn_fixed_row, page), offsetof(skuldrefn_fixed_row, frame),
+        offsetof(skuldrefn_fixed_row, ep4ta));
+    printf("%zu %zu %zu\n", sizeof(skuldrefn_converted), offsetof(skuldrefn_converted, row),
+        offsetof(skuldrefn_converted, length));
+    return 0;
+}
+"#;
+
+#[test]
+fn rows_in_c() {
+    let source = Temporary::new("rows.c");
+    fs::write(&source.0, ROWS).expect("a file");
+    let Some(printed) = printed("rows", &source.0) else {
+        return;
+    };
+    let due = [
+        // A byte short; then both rows, and nothing behind them.
+        "12 0 0",
+        "0 0 64",
+        "8 2 1 0 605 102 1f0000040000 8504030201 8a09080706",
+        "10 4 0 0 ffff fff 1000000000 9514131211 9a19181716",
+        "0 0 0 0 0 0 0 0 0",
+        "12 0 0",
+        "0 0 45",
+        "0 a5 a5",
+        // The third row is no record's; a bad length; kinds of the other width, and a
+        // width that is none.
+        "4 3 0",
+        "4 0 0",
+        "4 1 0",
+        "1 0 0",
+        "3 0 0",
+        "1 0 0",
+        "0 0 0",
+        "32 0 1 2 3 4 6 8 16 24",
+        "24 8 16",
+    ];
+    assert_eq!(printed.lines().collect::<Vec<_>>(), due);
+    let offsets = (offset_of!(Converted, row), offset_of!(Converted, length));
+    assert_eq!((size_of::<Converted>(), offsets), (24, (8, 16)));
+}
+
+/// Where the fields of a fixed row are, in the comments of its struct.
+#[test]
+fn the_header_has_the_layout_of_a_fixed_row() {
+    let header = header();
+    let (before, _) = header.split_once("} skuldrefn_fixed_row;").expect("it");
+    let (_, fields) = before.rsplit_once("typedef struct {\n").expect("it");
+    let lines: Vec<&str> = fields.lines().collect();
+    assert_eq!(lines.len(), FIXED_ROW_FIELDS.len());
+    for (line, (name, place)) in lines.into_iter().zip(FIXED_ROW_FIELDS) {
+        let sort = format!("uint{}_t {name}; ", 8 * place.len());
+        let rest = line.trim().strip_prefix(&sort).expect(line);
+        let rest = rest.trim_start().strip_prefix("/* ").expect(line);
+        let start: String = rest.chars().take_while(char::is_ascii_digit).collect();
+        assert_eq!(start, place.start.to_string(), "{line}");
+    }
+}
+
 fn header() -> String {
     fs::read_to_string(folder().join("skuldrefn.h")).expect("the header")
 }
@@ -520,6 +625,7 @@ fn the_header_has_the_limits_and_the_programs_numbers() {
         ("LOG_LIMIT", model::LOG_LIMIT.to_string()),
         ("PCIDS", "4096".to_string()),
         ("ROW", common::ROW.to_string()),
+        ("FIXED_ROW", model::rows::ROW.to_string()),
         (
             "PROGRAM_CAPABILITY",
             format!("UINT64_C({:#X})", model::PROGRAM_CAPABILITY).replace("0X", "0x"),
@@ -538,6 +644,7 @@ fn the_header_has_the_limits_and_the_programs_numbers() {
     assert_eq!(skuldrefn::LOG_LIMIT, model::LOG_LIMIT);
     assert_eq!(skuldrefn::PCIDS, 4_096);
     assert_eq!(skuldrefn::ROW, common::ROW);
+    assert_eq!(skuldrefn::FIXED_ROW, model::rows::ROW);
     assert_eq!(skuldrefn::PCIDS, model::PCIDS);
     assert_eq!(skuldrefn::PROGRAM_CAPABILITY, model::PROGRAM_CAPABILITY);
     assert_eq!(skuldrefn::PROGRAM_WIDTH, model::PROGRAM_WIDTH);

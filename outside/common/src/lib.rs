@@ -1,14 +1,16 @@
 //! What the crates beside the model share: the limits, the replay program's numbers, numbers in
-//! bytes, where the fields of each event are, and the rows of a replay.
+//! bytes, where the fields of each event are, the rows of a replay, and the fixed rows of a table.
 //!
 //! The model uses none of this: it stands alone, written from the papers, and `tests/model.rs`
 //! compares the two.
 
+mod fixed_rows;
 mod layouts;
 mod numbers;
 mod records;
 mod rows;
 
+pub use fixed_rows::{fixed_row, row_field, set_row_field, FIXED_ROW, FIXED_ROW_FIELDS};
 pub use layouts::{
     encode, field, is_mapping_kind, is_wide_kind, kinds, length, set_field, sibling, sizes, KINDS,
 };

@@ -4,6 +4,7 @@ use common::{
     canonical, encode, field, hex, is_mapping_kind, is_wide_kind, kinds, length, number, put,
     read_row, set_field, sibling, write_row, Record, CAPABILITY_BITS, KINDS, LINEAR_WIDTHS, ROW,
 };
+use common::{fixed_row, row_field, set_row_field, FIXED_ROW, FIXED_ROW_FIELDS};
 use model::event::Event;
 use model::mapping::{has_kind, Mapping};
 use model::{Context, LinearWidth};
@@ -99,6 +100,47 @@ fn records() {
         };
         assert_eq!(read, due);
     }
+}
+
+/// The rows here are those that the model exports.
+#[test]
+fn fixed_rows() {
+    assert_eq!(FIXED_ROW, model::rows::ROW);
+    let mut end = 0;
+    for (name, place) in FIXED_ROW_FIELDS {
+        assert_eq!(place.start, end, "{name}");
+        end = place.end;
+    }
+    assert_eq!(end, FIXED_ROW);
+    for kind in 1..=10 {
+        let linear_width = if is_wide_kind(kind) { 57 } else { 48 };
+        let record = Record {
+            kind,
+            vpid: 0x0105,
+            pcid: 0x203,
+            global: 1,
+            span: 1,
+            page: 0x8_1234_5600,
+            frame: 0xAB_CDEF_0123,
+            ep4ta: 0x76_5432_10FE,
+        };
+        let mut due = [0xA5; FIXED_ROW];
+        let exported = model::export(linear_width, &record.bytes(), &mut due);
+        assert_eq!((exported.answer, exported.length), (0, FIXED_ROW));
+        let row = fixed_row(&record.bytes()).expect("a record");
+        assert_eq!(row, due, "kind {kind}");
+        assert_eq!(
+            (row_field(&row, 0), row_field(&row, 6)),
+            (kind.into(), record.page)
+        );
+        let whole = record.bytes();
+        assert_eq!(fixed_row(&whole[..whole.len() - 1]), None);
+    }
+    assert_eq!(fixed_row(&[]), None);
+    assert_eq!(fixed_row(&[22]), None);
+    let mut row = [0xA5; FIXED_ROW];
+    set_row_field(&mut row, 4, 0x12_3456);
+    assert_eq!(row[3..7], [0xA5, 0x56, 0x34, 0xA5]);
 }
 
 #[test]

@@ -40,10 +40,15 @@
 //! field that is not zero, and all bytes from an unknown kind or a cut record
 //! on, where a replay ends; kinds of the other width are unknown. So
 //! [`assemble`] gives back the same log, whatever its bytes are.
+//!
+//! [`fault`], [`bad_record`] and [`row_fault`] say in these names why bytes are no
+//! event, no table and no fixed row.
 
 mod assemble;
 mod disassemble;
 pub mod forms;
+mod tables;
 
 pub use assemble::{assemble, Error};
 pub use disassemble::{disassemble, fault, line};
+pub use tables::{bad_record, row_fault, BadRecord};

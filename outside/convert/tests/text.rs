@@ -2,9 +2,10 @@
 
 use common::{hex, kinds, KINDS, LINEAR_WIDTHS};
 use convert::forms::{Form, FORMS};
-use convert::{assemble, disassemble};
+use convert::{assemble, bad_record, disassemble, row_fault, BadRecord};
 use generate::{events, log, near_events, Rng};
 use model::event::Event;
+use model::mapping::{records, Mapping};
 use model::LinearWidth;
 
 const SEED: u64 = 5;
@@ -412,4 +413,99 @@ fn the_line_of_one_event() {
     assert_eq!(convert::line(48, &global), None);
     assert_eq!(convert::line(48, &[]), None);
     assert_eq!(convert::line(48, &[0]), None);
+}
+
+/// The first bad record of bytes, with the model as its judge.
+fn first_bad(linear_width: u64, table: &[u8]) -> Option<BadRecord> {
+    let width = LinearWidth::of(linear_width);
+    bad_record(linear_width, table, |record| {
+        Mapping::decode(width, record).is_some()
+    })
+}
+
+#[test]
+fn a_bad_record() {
+    let good = "linear vpid=0x5 pcid=0x1 global=0x0 span=0x0 page=0x12345 frame=0xabcde";
+    let good = assemble(good.as_bytes()).expect("a record");
+    let bad = |number, byte, why: &str| {
+        let why = why.to_string();
+        Some(BadRecord { number, byte, why })
+    };
+    let mut global = good.clone();
+    global[5] = 2;
+    for (table, due) in [
+        (vec![], None),
+        (good.repeat(3), None),
+        (
+            [&good[..], &global, &[0]].concat(),
+            bad(2, 17, "linear, but global is at most 0x1"),
+        ),
+        (
+            [&good.repeat(2)[..], &good[..16]].concat(),
+            bad(3, 34, "linear cut to 16 of 17 bytes"),
+        ),
+        (
+            vec![7; 40],
+            bad(1, 0, "unknown kind 0x7, one of 57-bit linear addresses"),
+        ),
+        // A whole, valid event that is no mapping's.
+        (
+            [&good[..], &[22], &good].concat(),
+            bad(2, 17, "kind 0x16 is no mapping's"),
+        ),
+    ] {
+        assert_eq!(first_bad(48, &table), due);
+    }
+}
+
+/// There is a bad record exactly if the model finds no table, and all before it are
+/// one.
+#[test]
+fn bad_records_of_any_tables() {
+    println!("seed {SEED}");
+    let mut rng = Rng::new(SEED);
+    let mut found = 0;
+    for _ in 0..20_000 {
+        let context = generate::context(&mut rng);
+        let table = generate::any_table(&mut rng, &context);
+        for linear_width in LINEAR_WIDTHS {
+            let width = LinearWidth::of(linear_width);
+            let bad = first_bad(linear_width, &table);
+            assert_eq!(bad.is_none(), records(width, &table).is_some());
+            let Some(bad) = bad else {
+                continue;
+            };
+            let before = records(width, &table[..bad.byte]).expect("a table");
+            assert_eq!(before.len() + 1, bad.number);
+            assert!(!bad.why.is_empty());
+            found += 1;
+        }
+    }
+    assert!(found > 1_000, "{found}");
+}
+
+/// A row has a fault exactly if the model does not import it. The words of each are in
+/// `../rows/tests/program.rs`.
+#[test]
+fn faults_of_rows() {
+    println!("seed {SEED}");
+    let mut rng = Rng::new(SEED);
+    let mut reached = [0; 2];
+    for _ in 0..100 {
+        let context = generate::context(&mut rng);
+        for kind in KINDS.into_iter().filter(|kind| *kind <= 10) {
+            let record = generate::event_of_kind(&mut rng, &context, kind);
+            let row = generate::rows_of(&record);
+            for row in [generate::near_imports(&row), vec![row]].concat() {
+                for width in LINEAR_WIDTHS {
+                    let fault = row_fault(width, &row);
+                    let imported = model::import(width, &row, &mut [0; 23]);
+                    assert_eq!(fault.is_none(), imported.answer == 0, "{fault:?}");
+                    reached[usize::from(fault.is_none())] += 1;
+                }
+            }
+        }
+    }
+    println!("faults and good rows: {reached:?}");
+    assert!(reached.iter().all(|count| *count > 10_000));
 }

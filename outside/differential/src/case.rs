@@ -8,6 +8,7 @@ use crate::level_run::LevelRunCase;
 use crate::lookup::LookupCase;
 use crate::reached::Reached;
 use crate::replay::ReplayCase;
+use crate::rows::RowsCase;
 use crate::run::RunCase;
 use crate::step::StepCase;
 use crate::stream::StreamCase;
@@ -33,6 +34,7 @@ pub enum Case {
     LevelRun(LevelRunCase),
     Take(TakeCase),
     Stream(StreamCase),
+    Rows(RowsCase),
     Widen(WidenCase),
     Walk(WalkCase),
 }
@@ -60,6 +62,7 @@ impl Case {
             Case::LevelRun(case) => case.check(reached),
             Case::Take(case) => case.check(reached),
             Case::Stream(case) => case.check(reached),
+            Case::Rows(case) => case.check(reached),
             Case::Widen(case) => case.check(reached),
             Case::Walk(case) => case.check(reached),
         }
@@ -94,6 +97,7 @@ impl Case {
             Case::LevelRun(case) => case.smaller().into_iter().map(Case::LevelRun).collect(),
             Case::Take(case) => case.smaller().into_iter().map(Case::Take).collect(),
             Case::Stream(case) => case.smaller().into_iter().map(Case::Stream).collect(),
+            Case::Rows(case) => case.smaller().into_iter().map(Case::Rows).collect(),
             Case::Widen(case) => case.smaller().into_iter().map(Case::Widen).collect(),
             Case::Walk(case) => case.smaller().into_iter().map(Case::Walk).collect(),
         }
@@ -115,6 +119,7 @@ impl fmt::Display for Case {
             Case::LevelRun(case) => case.fmt(f),
             Case::Take(case) => case.fmt(f),
             Case::Stream(case) => case.fmt(f),
+            Case::Rows(case) => case.fmt(f),
             Case::Widen(case) => case.fmt(f),
             Case::Walk(case) => case.fmt(f),
         }

@@ -9,6 +9,7 @@ use crate::level::{LevelCase, LevelInput, LevelLookupCase};
 use crate::level_run::{LevelMoment, LevelRunCase};
 use crate::lookup::LookupCase;
 use crate::replay::{starts, ReplayCase};
+use crate::rows::{RowsCase, Way};
 use crate::run::{Moment, RunCase};
 use crate::step::StepCase;
 use crate::stream::{Call, StreamCase};
@@ -446,6 +447,21 @@ pub fn widen(rng: &mut Rng) -> WidenCase {
     WidenCase {
         table: case.table,
         new: buffer(rng, case.new.len()),
+    }
+}
+
+/// A table as fixed rows or rows as a table, mostly at the linear width of its
+/// records.
+pub fn rows(rng: &mut Rng, way: Way) -> RowsCase {
+    let call = match way {
+        Way::Export => generate::export(rng),
+        Way::Import => generate::import(rng),
+    };
+    RowsCase {
+        way,
+        linear_width: call.linear_width,
+        input: call.input,
+        output: buffer(rng, call.output.len()),
     }
 }
 

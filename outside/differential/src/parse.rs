@@ -9,6 +9,7 @@ use crate::level::{LevelCase, LevelInput, LevelLookupCase};
 use crate::level_run::{LevelMoment, LevelRunCase};
 use crate::lookup::LookupCase;
 use crate::replay::ReplayCase;
+use crate::rows::{RowsCase, Way};
 use crate::run::{Moment, RunCase};
 use crate::step::StepCase;
 use crate::stream::{Call, StreamCase};
@@ -40,6 +41,8 @@ pub fn parse(text: &str) -> Result<Case, String> {
         "level-run" => lines.level_run().map(Case::LevelRun),
         "take" => lines.take_case().map(Case::Take),
         "stream" => lines.stream().map(Case::Stream),
+        "export" => lines.rows(Way::Export).map(Case::Rows),
+        "import" => lines.rows(Way::Import).map(Case::Rows),
         "widen" => lines.widen().map(Case::Widen),
         "walk" => lines.walk().map(Case::Walk),
         other => Err(format!("no case '{other}'")),
@@ -379,6 +382,17 @@ impl<'a> Lines<'a> {
             first,
             second,
             calls,
+        })
+    }
+
+    fn rows(&mut self, way: Way) -> Result<RowsCase, String> {
+        let [_, read, written] = way.names();
+        let [linear_width] = self.numbers("width")?;
+        Ok(RowsCase {
+            way,
+            linear_width,
+            input: self.bytes(read)?,
+            output: self.buffer(written)?,
         })
     }
 

@@ -1,10 +1,11 @@
 //! How often what was reached.
 
+use crate::rows::Way;
 use crate::walk::number;
 use bridge::{Finished, Taken};
 use model::stream::Reader;
 use model::walk::{Ending, Spot};
-use model::Walk;
+use model::{Converted, Walk};
 use std::fmt;
 
 /// Counts over all that was compared.
@@ -226,6 +227,14 @@ pub struct Counts {
     pub claim_rules: [u64; 6],
     /// Claims of which not the first record is the first unmatched one.
     pub part_matched: u64,
+    /// Tables as fixed rows, and rows as tables, by their answer.
+    pub exports: [u64; 13],
+    pub imports: [u64; 13],
+    /// Imports refused for their length, and for a row behind a good one.
+    pub bad_lengths: u64,
+    pub later_rows: u64,
+    /// Exports and imports into just the room that they need.
+    pub exact: [u64; 2],
     /// Walks by their ending.
     pub walks: [u64; 7],
     /// Steps, single and plain or in runs, by their EPTP rule.
@@ -254,6 +263,11 @@ impl Reached {
     /// The counts of the two linear widths that are in range, with the widths.
     pub fn both(&self) -> [(u64, &Counts); 2] {
         [(48, &self.widths[0]), (57, &self.widths[1])]
+    }
+
+    /// The counts of all other linear widths.
+    pub fn others(&self) -> &Counts {
+        &self.widths[2]
     }
 
     /// A walk in an image of so many bytes, and the spans of a translation.
@@ -304,8 +318,21 @@ impl Counts {
         self.dropped += dropped as u64;
     }
 
+    /// A table as fixed rows, or rows as a table, into a buffer of so many bytes.
+    pub fn converted(&mut self, way: Way, converted: &Converted, room: usize) {
+        let counts = match way {
+            Way::Export => &mut self.exports,
+            Way::Import => &mut self.imports,
+        };
+        counts[converted.answer as usize] += 1;
+        self.bad_lengths += u64::from(converted.answer == 4 && converted.row == 0);
+        self.later_rows += u64::from(converted.row > 1);
+        let exact = converted.length == room && room > 0;
+        self.exact[way as usize] += u64::from(exact);
+    }
+
     fn calls(&self) -> u64 {
-        let all: [&[u64]; 9] = [
+        let all: [&[u64]; 11] = [
             &self.steps,
             &self.counted,
             &self.run_steps,
@@ -314,6 +341,8 @@ impl Counts {
             &self.lookups,
             &self.reasons,
             &self.claims,
+            &self.exports,
+            &self.imports,
             &self.walks,
         ];
         all.into_iter().flatten().sum::<u64>() + self.streams.calls() + self.levels.calls()
@@ -360,6 +389,16 @@ impl fmt::Display for Counts {
         writeln!(f, "13 instead of: {}", numbered(&self.instead))?;
         writeln!(f, "accepted by kind: {}", numbered(&self.accepted))?;
         writeln!(f, "reasons: {}", numbered(&self.reasons))?;
+        writeln!(f, "exports by answer: {}", numbered(&self.exports))?;
+        writeln!(
+            f,
+            "imports by answer: {}; {} of a bad length, {} bad behind a good row",
+            numbered(&self.imports),
+            self.bad_lengths,
+            self.later_rows
+        )?;
+        let [rows, tables] = self.exact;
+        writeln!(f, "into just enough room: {rows} exports, {tables} imports")?;
         writeln!(f, "walks by ending: {}", numbered(&self.walks))?;
         writeln!(f, "{}", self.streams)?;
         writeln!(f, "{}", self.levels)?;

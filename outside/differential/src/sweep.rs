@@ -8,6 +8,7 @@ use crate::explain::ExplainCase;
 use crate::level::{LevelCase, LevelInput, LevelLookupCase};
 use crate::lookup::LookupCase;
 use crate::replay::ReplayCase;
+use crate::rows::{RowsCase, Way};
 use crate::step::StepCase;
 use crate::stream::{Call, StreamCase};
 use crate::take::TakeCase;
@@ -15,8 +16,9 @@ use crate::walk::WalkCase;
 use crate::widen::WidenCase;
 use bridge::FlatContext;
 use common::{canonical, encode, is_mapping_kind, CAPABILITY_BITS, KINDS, PAGES};
-use common::{LINEAR_WIDTHS, PCIDS, PROGRAM_CAPABILITY, PROGRAM_WIDTH, ROW, TABLE_LIMIT};
-use generate::{image_entries, near_tallies, Rng, SparseTally};
+use common::{FIXED_ROW, LINEAR_WIDTHS, PCIDS, ROW, TABLE_LIMIT};
+use common::{PROGRAM_CAPABILITY, PROGRAM_WIDTH};
+use generate::{image_entries, near_tallies, Rng, SparseTally, BAD_LINEAR_WIDTHS};
 use model::{Address, Context, LinearWidth, Place};
 
 fn step(rng: &mut Rng, context: FlatContext, table: &[u8], event: &[u8]) -> StepCase {
@@ -603,6 +605,104 @@ pub fn near_widenings(rng: &mut Rng) -> Vec<WidenCase> {
         WidenCase { table, new }
     };
     tables.into_iter().map(with).collect()
+}
+
+/// One table as fixed rows, and its rows as a table, into buffers of many lengths. Now
+/// and then it is about as long as a table may be, and the rows have a record more.
+pub fn rows_rooms(rng: &mut Rng) -> Vec<RowsCase> {
+    let context = generate::context(rng);
+    let (table, rows) = if rng.one_in(6) {
+        let free = rng.pick(&[0, 1, 15, 16, 17, 18, 23]);
+        let table = generate::full_table(rng, &context, TABLE_LIMIT - free);
+        let more = generate::table(rng, &context, 1);
+        let rows = generate::rows_of(&[&table[..], &more].concat());
+        (table, rows)
+    } else {
+        let count = rng.below(9);
+        let table = generate::table(rng, &context, count);
+        let rows = generate::rows_of(&table);
+        (table, rows)
+    };
+    let mut cases = Vec::new();
+    for (way, input, other, result) in [
+        (
+            Way::Export,
+            &table,
+            table.len(),
+            generate::rows_of(&table).len(),
+        ),
+        (
+            Way::Import,
+            &rows,
+            rows.len(),
+            generate::table_length(&rows),
+        ),
+    ] {
+        let mut lengths = vec![0, 1, 15, 16, 17, 31, 32, 33, other];
+        lengths.extend([result.saturating_sub(1), result, result + 1, result + 64]);
+        lengths.extend([result.saturating_sub(FIXED_ROW), result.saturating_sub(16)]);
+        lengths.extend([TABLE_LIMIT - 1, TABLE_LIMIT, TABLE_LIMIT + 1]);
+        lengths.push(2 * TABLE_LIMIT);
+        for length in lengths {
+            cases.push(RowsCase {
+                way,
+                linear_width: context.linear_width,
+                input: input.clone(),
+                output: buffer(rng, length),
+            });
+        }
+    }
+    cases
+}
+
+/// Exports of a table with every record one field away from a valid one of each kind,
+/// those of the other linear width too, and of a table cut after each of its bytes.
+pub fn near_exports(rng: &mut Rng) -> Vec<RowsCase> {
+    let context = generate::context(rng);
+    let count = rng.below(4);
+    let table = generate::table(rng, &context, count);
+    let tables = near_tables(rng, &context, &table);
+    let with = |input: Vec<u8>| {
+        let more = rng.below(20);
+        RowsCase {
+            way: Way::Export,
+            linear_width: context.linear_width,
+            output: buffer(rng, FIXED_ROW * (count + 1) + more),
+            input,
+        }
+    };
+    tables.into_iter().map(with).collect()
+}
+
+/// Imports of rows of each kind, those of the other linear width too, with every row
+/// one field away from its own in turn, and cut after each byte; and at linear widths
+/// that are none.
+pub fn near_imports(rng: &mut Rng) -> Vec<RowsCase> {
+    let context = generate::context(rng);
+    let mut inputs = Vec::new();
+    for kind in KINDS.into_iter().filter(|kind| is_mapping_kind(*kind)) {
+        let record = generate::event_of_kind(rng, &context, kind);
+        inputs.extend(generate::near_imports(&generate::rows_of(&record)));
+    }
+    let count = 1 + rng.below(3);
+    let rows = generate::rows_of(&generate::table(rng, &context, count));
+    inputs.extend(generate::near_imports(&rows));
+    inputs.extend((0..=rows.len()).map(|cut| rows[..cut].to_vec()));
+    let mut widths = vec![context.linear_width; inputs.len()];
+    for linear_width in LINEAR_WIDTHS.into_iter().chain(BAD_LINEAR_WIDTHS) {
+        inputs.push(rows.clone());
+        widths.push(linear_width);
+    }
+    let with = |(input, linear_width): (Vec<u8>, u64)| {
+        let more = rng.pick(&[0, 0, 1, 20]);
+        RowsCase {
+            way: Way::Import,
+            linear_width,
+            output: buffer(rng, generate::table_length(&input) + more),
+            input,
+        }
+    };
+    inputs.into_iter().zip(widths).map(with).collect()
 }
 
 /// Walks one bit away from a given one in the root, the EPTP, the address or the

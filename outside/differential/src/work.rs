@@ -2,6 +2,7 @@
 
 use crate::case::{Case, Failure};
 use crate::reached::Reached;
+use crate::rows::Way;
 use crate::{draw, sweep};
 use generate::Rng;
 
@@ -154,6 +155,20 @@ pub fn widenings(rng: &mut Rng, reached: &mut Reached) -> Result<(), Failure> {
     all(sweep::near_widenings(rng), Case::Widen, reached)
 }
 
+/// Tables as fixed rows and back, random and at the bounds.
+pub fn rows(rng: &mut Rng, reached: &mut Reached) -> Result<(), Failure> {
+    for _ in 0..40 {
+        Case::Rows(draw::rows(rng, Way::Export)).compare(reached)?;
+        Case::Rows(draw::rows(rng, Way::Import)).compare(reached)?;
+    }
+    all(sweep::rows_rooms(rng), Case::Rows, reached)?;
+    if rng.one_in(4) {
+        all(sweep::near_exports(rng), Case::Rows, reached)?;
+        all(sweep::near_imports(rng), Case::Rows, reached)?;
+    }
+    Ok(())
+}
+
 /// Walks, random and at the bounds.
 pub fn walks(rng: &mut Rng, reached: &mut Reached) -> Result<(), Failure> {
     for _ in 0..400 {
@@ -177,9 +192,9 @@ fn filling(rng: &mut Rng, reached: &mut Reached) -> Result<(), Failure> {
 }
 
 /// The work of one round.
-const ROUND: [Work; 16] = [
+const ROUND: [Work; 17] = [
     steps, near_steps, tallies, lookups, claims, steps, runs, replays, steps, lookups, explains,
-    widenings, walks, streams, levels, level_runs,
+    rows, widenings, walks, streams, levels, level_runs,
 ];
 
 /// Once in so many rounds a table is filled.

@@ -355,6 +355,25 @@ fn conversions_of_every_answer() {
     }
 }
 
+/// Every answer of both calls, bad lengths, bad rows behind good ones, and buffers that
+/// are just long enough.
+#[test]
+fn fixed_rows_of_every_answer() {
+    let reached = compare(120, work::rows);
+    for (width, counts) in reached.both() {
+        for answer in [0, 2, 3, 12] {
+            assert!(counts.exports[answer] > 30, "{answer} at {width} bits");
+        }
+        for answer in [0, 4, 12] {
+            assert!(counts.imports[answer] > 100, "{answer} at {width} bits");
+        }
+        assert!(counts.bad_lengths > 100 && counts.later_rows > 100);
+        assert!(counts.exact.iter().all(|count| *count > 100));
+    }
+    let others = reached.others();
+    assert!(others.exports[1] > 100 && others.imports[1] > 100);
+}
+
 /// Every ground at every pair of levels, every pair of page sizes, every count of
 /// entries, and images that end in an entry.
 #[test]

@@ -1,5 +1,6 @@
 //! A printed case is read back, and the program compares it again.
 
+use differential::rows::Way;
 use differential::{draw, parse, sweep, Case};
 use generate::{Rng, SparseTally};
 use std::io::Write;
@@ -21,6 +22,8 @@ fn cases() -> Vec<Case> {
         cases.push(Case::LevelRun(draw::level_run(&mut rng, 20)));
         cases.push(Case::Take(draw::take(&mut rng)));
         cases.push(Case::Stream(draw::stream(&mut rng, 300)));
+        cases.push(Case::Rows(draw::rows(&mut rng, Way::Export)));
+        cases.push(Case::Rows(draw::rows(&mut rng, Way::Import)));
         cases.push(Case::Widen(draw::widen(&mut rng)));
         cases.push(Case::Walk(draw::walk(&mut rng)));
     }
@@ -107,7 +110,7 @@ fn fuzz(words: &[&str], input: &str) -> Output {
 
 #[test]
 fn the_program_compares_a_case_again() {
-    for case in cases().iter().take(28) {
+    for case in cases().iter().take(32) {
         let output = fuzz(&["--case", "-"], &case.to_string());
         assert_eq!(output.status.code(), Some(0));
         assert_eq!(output.stdout, b"no difference\n");

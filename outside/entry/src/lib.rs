@@ -38,7 +38,7 @@ esac
 /// The stand-in for cargo.
 const CARGO: &str = r#"#!/bin/sh
 cd "$CHECKOUT" && echo "cargo $*" >>calls
-mkdir -p outside/target/release && (cd "$PROGRAMS" && cp convert tally widen judge stream walk workbench fuzz mutants bench "$CHECKOUT/outside/target/release/")
+mkdir -p outside/target/release && (cd "$PROGRAMS" && cp convert tally widen rows judge stream walk workbench fuzz mutants bench "$CHECKOUT/outside/target/release/")
 "#;
 
 /// The checks that the gate runs after rt.
@@ -95,6 +95,7 @@ impl Checkout {
             fs::set_permissions(checkout.path(&path), mode).expect("a mode");
         }
         checkout.write("a.table", &A);
+        checkout.write("a.rows", &ROW_A);
         checkout.write("resets.log", &[25; 65_536]);
         checkout.write("three.log", &[22, 23, 25]);
         checkout
@@ -200,6 +201,12 @@ impl Drop for Checkout {
 pub const A: [u8; 17] = [
     0x01, 0x05, 0x00, 0x01, 0x00, 0x00, 0x00, 0x45, 0x23, 0x01, 0x00, 0x00, 0xDE, 0xBC, 0x0A, 0x00,
     0x00,
+];
+
+/// The row of A, which is the file `a.rows`.
+pub const ROW_A: [u8; 32] = [
+    1, 0, 0, 0, 5, 0, 1, 0, 0x45, 0x23, 0x01, 0, 0, 0, 0, 0, 0xDE, 0xBC, 0x0A, 0, 0, 0, 0, 0, 0, 0,
+    0, 0, 0, 0, 0, 0,
 ];
 
 /// What the replay program prints for `three.log`.

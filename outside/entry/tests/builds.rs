@@ -115,6 +115,8 @@ fn tools_that_are_missing() {
         ("disassemble three.log", "cargo"),
         ("tally three.log", "rt"),
         ("widen a.table", "rt"),
+        ("rows a.table", "rt"),
+        ("table a.rows", "rt"),
         ("judge three.log", "rt"),
         ("stream three.log", "rt"),
         ("test", "rt"),

@@ -2,12 +2,14 @@
 
 use entry::{Checkout, THREE};
 
-const COMMANDS: [&str; 13] = [
+const COMMANDS: [&str; 15] = [
     "replay",
     "assemble",
     "disassemble",
     "tally",
     "widen",
+    "rows",
+    "table",
     "judge",
     "stream",
     "walk",
@@ -69,6 +71,26 @@ fn words_that_are_not_taken() {
         "widen a.table a.table",
         "widen /",
         "widen ''",
+        "rows nofile.table",
+        "rows --all",
+        "rows --linear-width",
+        "rows --linear-width 56",
+        "rows --linear-width a.table",
+        "rows --linear-width 57 --linear-width 57",
+        "rows a.table --linear-width 57",
+        "rows a.table a.table",
+        "rows a.table --help",
+        "rows /",
+        "rows ''",
+        "table nofile.rows",
+        "table --all",
+        "table --linear-width 56",
+        "table --linear-width a.table",
+        "table a.table --linear-width 57",
+        "table a.table a.table",
+        "table -- a b",
+        "table /",
+        "table ''",
         "judge nofile.trace",
         "judge --all",
         "judge --linear-width 56",
@@ -184,6 +206,11 @@ fn options_after_the_file() {
             "disassemble three.log --every 1",
             "disassemble takes one file; '--every' is one too many",
         ),
+        (
+            "rows a.table --linear-width 57",
+            "options go before the file",
+        ),
+        ("table - --linear-width 57", "options go before the file"),
         ("judge three.log --make", "options go before the file"),
         ("judge - --linear-width 57", "options go before the file"),
         ("stream - --linear-width 57", "options go before the file"),
@@ -202,6 +229,8 @@ fn help_after_options() {
         ("tally", "--every 1"),
         ("tally", "--linear-width 57 --every 1"),
         ("disassemble", "--linear-width 57"),
+        ("rows", "--linear-width 57"),
+        ("table", "--linear-width 57"),
         ("judge", "--make"),
         ("judge", "--linear-width 57 --make"),
         ("stream", "--linear-width 57"),
@@ -266,6 +295,34 @@ fn help_of_tally() {
     ] {
         assert!(own.contains(due), "{own}");
     }
+}
+
+/// The help of rows has every field of a row with its bytes, in order.
+#[test]
+fn help_of_rows() {
+    let checkout = Checkout::bare();
+    let whole = checkout.sh("./skuldrefn help").out;
+    for (command, next) in [("rows", "table"), ("table", "judge")] {
+        let start = format!("\n  {command} [FILE] ");
+        let (_, after) = whole.split_once(&start).expect("a line");
+        let (line, _) = after
+            .split_once(&format!("\n  {next} "))
+            .expect("the next line");
+        assert!(line.contains("--linear-width 57 before FILE"), "{line}");
+    }
+    let own = checkout.sh("./skuldrefn help rows").out.replace('\n', " ");
+    for due in [
+        "kind 1, span 1, global 1, zero 1, VPID 2, PCID 2, page 8, frame or structure 8, EP4TA 8;",
+        "The status is 1, and nothing is written, where a record is not valid or the table is \
+         longer than 47,104 bytes;",
+    ] {
+        assert!(own.contains(due), "{own}");
+    }
+    let own = checkout.sh("./skuldrefn help table").out.replace('\n', " ");
+    assert!(
+        own.contains("where their bytes are no multiple of 32,"),
+        "{own}"
+    );
 }
 
 #[test]

@@ -1,7 +1,8 @@
-//! Events one field away from a given one.
+//! Events, and fixed rows, one field away from a given one.
 
 use crate::Rng;
-use common::{field, length, set_field, sizes};
+use common::{field, length, row_field, set_field, set_row_field, sizes};
+use common::{FIXED_ROW, FIXED_ROW_FIELDS};
 
 const WORD: &[u64] = &[0, 1, 0xFFFF];
 const PCID: &[u64] = &[0, 4_095, 4_096, 0xFFFF];
@@ -121,6 +122,39 @@ const EPTP: &[u64] = &[
     u64::MAX,
 ];
 
+const ROW_KIND: &[u64] = &[0, 1, 2, 3, 4, 5, 6, 7, 8, 9, 10, 11, 16, 22, 25, 0x81, 0xFF];
+const ROW_PAGE: &[u64] = &[
+    0,
+    1,
+    1 << 9,
+    1 << 18,
+    1 << 27,
+    (1 << 36) - (1 << 27),
+    (1 << 36) - 1,
+    1 << 36,
+    1 << 40,
+    (1 << 45) - (1 << 36),
+    (1 << 45) - 1,
+    1 << 45,
+    1 << 48,
+    1 << 63,
+    u64::MAX,
+];
+const ROW_FIVE: &[u64] = &[
+    0,
+    1,
+    (1 << 40) - 1,
+    1 << 40,
+    (1 << 40) + 1,
+    1 << 63,
+    u64::MAX,
+];
+
+/// The numbers at the bounds of each field of a fixed row, those past them too.
+const ROW_BOUNDS: [&[u64]; FIXED_ROW_FIELDS.len()] = [
+    ROW_KIND, SPAN, FLAG, FLAG, WORD, PCID, ROW_PAGE, ROW_FIVE, ROW_FIVE,
+];
+
 /// The numbers at the bounds of each field of a kind, in the order of the fields.
 fn bounds(kind: u8) -> &'static [&'static [u64]] {
     match kind {
@@ -218,4 +252,40 @@ fn near_in(rng: &mut Rng, event: &[u8], field: &Field) -> Vec<u8> {
         _ => rng.pick(field.bounds),
     };
     with(event, field.nth, changed)
+}
+
+/// Every fixed row that differs from a given one in one field, used or not: by one
+/// either way, by one bit, or at one of the bounds.
+pub fn near_rows(row: &[u8]) -> Vec<[u8; FIXED_ROW]> {
+    let mut near = Vec::new();
+    for (nth, (_, place)) in FIXED_ROW_FIELDS.iter().enumerate() {
+        let number = row_field(row, nth);
+        let mut numbers = vec![number.wrapping_add(1), number.wrapping_sub(1)];
+        numbers.extend((0..8 * place.len()).map(|bit| number ^ 1 << bit));
+        numbers.extend(ROW_BOUNDS[nth]);
+        near.extend(numbers.into_iter().map(|number| with_row(row, nth, number)));
+    }
+    near
+}
+
+/// One of these.
+pub fn near_row(rng: &mut Rng, row: &[u8]) -> [u8; FIXED_ROW] {
+    let nth = rng.below(FIXED_ROW_FIELDS.len());
+    let number = row_field(row, nth);
+    let bits = 8 * FIXED_ROW_FIELDS[nth].1.len();
+    let changed = match rng.below(6) {
+        0 => number.wrapping_add(1),
+        1 => number.wrapping_sub(1),
+        2 | 3 => number ^ 1 << rng.below(bits),
+        _ => rng.pick(ROW_BOUNDS[nth]),
+    };
+    with_row(row, nth, changed)
+}
+
+/// A row with one field changed; the number is cut to the field's bytes.
+fn with_row(row: &[u8], nth: usize, number: u64) -> [u8; FIXED_ROW] {
+    let mut changed = [0; FIXED_ROW];
+    changed.copy_from_slice(row);
+    set_row_field(&mut changed, nth, number);
+    changed
 }

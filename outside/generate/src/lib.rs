@@ -11,16 +11,17 @@
 //! lends the plain types of a context, an address and a tally, and no rule.
 //!
 //! * [`Rng`]: the generator of numbers.
-//! * [`case`], [`query`], [`explain`], [`widening`], [`walk()`]: inputs of one step,
-//!   of one lookup, of one explanation, of one conversion and of one walk.
+//! * [`case`], [`query`], [`explain`], [`export`], [`import`], [`widening`],
+//!   [`walk()`]: inputs of one step, of one lookup, of one explanation, of one table
+//!   as fixed rows and back, of one conversion and of one walk.
 //! * [`claim()`]: a claimed table after a step.
 //! * [`level_case`], [`level_query`]: steps and lookups of two levels.
 //! * [`taking`], [`reader`], [`fragments`]: logs in fragments, and readers of them.
 //! * [`start`], [`events`], [`log`], [`filling_log`]: whole runs and logs.
 //! * [`context`], [`table`], [`event`], [`address`] and so on: the parts.
 //! * [`tally()`], [`near_tallies`]: the tallies to hand in with a table.
-//! * [`near_contexts`], [`near_events`]: every input that differs from a given
-//!   one in one field, by one or at a bound.
+//! * [`near_contexts`], [`near_events`], [`near_imports`]: every input that differs
+//!   from a given one in one field, by one or at a bound.
 
 mod aim;
 mod bounds;
@@ -36,6 +37,7 @@ mod pool;
 mod query;
 mod record;
 mod rng;
+mod rows;
 mod run;
 mod stream;
 mod table;
@@ -56,6 +58,7 @@ pub use pool::address;
 pub use query::{query, Query};
 pub use record::other_width;
 pub use rng::Rng;
+pub use rows::{export, import, near_imports, rows_of, table_length, RowsCall};
 pub use run::{events, filling_log, log, start};
 pub use stream::{damage_reader, fragments, log_of_every_kind, reader, readers, taking, Taking};
 pub use table::{any_table, full_table, removal, table};

@@ -1,8 +1,8 @@
 //! The generator reaches every answer, reason and EPTP rule and every wrong
 //! tally often, at both linear widths, and gives the same each time.
 
-use common::{canonical, field, is_mapping_kind, kinds, sizes};
-use common::{KINDS, LINEAR_WIDTHS, LOG_LIMIT, PCIDS};
+use common::{canonical, field, is_mapping_kind, kinds, row_field, sizes};
+use common::{FIXED_ROW, FIXED_ROW_FIELDS, KINDS, LINEAR_WIDTHS, LOG_LIMIT, PCIDS};
 use generate::{case, events, explain, filling_log, log, near_events, near_tallies, other_width};
 use generate::{
     fragments, level_case, level_query, log_of_every_kind, query, table_of_result, taking, walk,
@@ -16,7 +16,7 @@ use model::replay::first_event;
 use model::stream::take;
 use model::walk::{walk_with_spans, Ending};
 use model::LinearWidth::{self, Bits48, Bits57};
-use model::{count, counted_step, lookup, step, widen, Tally, TABLE_LIMIT};
+use model::{count, counted_step, lookup, step, widen, Converted, Tally, TABLE_LIMIT};
 
 const SEED: u64 = 7;
 
@@ -435,6 +435,127 @@ fn every_answer_of_the_converter_is_reached() {
     assert!(grown >= 50 && full >= 5 && upper >= 1_000);
 }
 
+#[test]
+fn every_answer_of_export_is_reached() {
+    let mut rng = Rng::new(SEED);
+    let (mut both, mut bad_widths) = ([[0; 13]; 2], 0);
+    let (mut exact, mut short, mut full, mut more) = (0, 0, 0, 0);
+    for _ in 0..20_000 {
+        let mut call = generate::export(&mut rng);
+        let exported = model::export(call.linear_width, &call.input, &mut call.output);
+        let Some(place) = place(call.linear_width) else {
+            assert_eq!(exported.answer, 1);
+            bad_widths += 1;
+            continue;
+        };
+        both[place][exported.answer as usize] += 1;
+        let Some(records) = records(LinearWidth::of(call.linear_width), &call.input) else {
+            continue;
+        };
+        let result = FIXED_ROW * records.len();
+        exact += usize::from(result > 0 && call.output.len() == result);
+        short += usize::from(call.output.len() + 1 == result);
+        full += usize::from(exported.answer == 0 && call.input.len() == TABLE_LIMIT);
+        // Export's room is its buffer alone.
+        more += usize::from(exported.length > TABLE_LIMIT);
+    }
+    println!("answers {both:?}, exact {exact}, short {short}, full {full}, more {more}");
+    for answer in [0, 2, 3, 12] {
+        assert!(both.iter().all(|counts| counts[answer] >= 300), "{answer}");
+    }
+    assert!(bad_widths >= 300 && exact >= 1_000 && short >= 1_000);
+    assert!(full >= 50 && more >= 50);
+}
+
+/// Why a row is bad: the last field of it that, with another small number, would
+/// make it good; None if one change is not enough.
+fn field_to_blame(linear_width: u64, row: &[u8]) -> Option<usize> {
+    let good = |row: &[u8]| model::import(linear_width, row, &mut [0; 23]).answer == 0;
+    (0..FIXED_ROW_FIELDS.len()).rev().find(|nth| {
+        let mut changed = row.to_vec();
+        (0..=10).any(|number| {
+            common::set_row_field(&mut changed, *nth, number);
+            good(&changed)
+        })
+    })
+}
+
+#[test]
+fn every_answer_of_import_is_reached() {
+    let mut rng = Rng::new(SEED);
+    let (mut both, mut bad_widths) = ([[0; 13]; 2], 0);
+    let (mut lengths, mut later, mut other, mut grown) = (0, 0, 0, 0);
+    let (mut exact, mut short) = (0, 0);
+    let mut blamed = [0; FIXED_ROW_FIELDS.len()];
+    for _ in 0..40_000 {
+        let mut call = generate::import(&mut rng);
+        let Converted {
+            answer,
+            row,
+            length,
+        } = model::import(call.linear_width, &call.input, &mut call.output);
+        let Some(place) = place(call.linear_width) else {
+            assert_eq!((answer, row), (1, 0));
+            bad_widths += 1;
+            continue;
+        };
+        both[place][answer as usize] += 1;
+        lengths += usize::from(answer == 4 && row == 0);
+        later += usize::from(row > 1);
+        if row > 0 {
+            let start = FIXED_ROW * (row as usize - 1);
+            let bad = &call.input[start..start + FIXED_ROW];
+            let width = LINEAR_WIDTHS[1 - place];
+            let there = model::import(width, bad, &mut [0; 23]).answer == 0;
+            other += usize::from(there);
+            if let Some(nth) = field_to_blame(call.linear_width, bad) {
+                blamed[nth] += 1;
+            }
+        }
+        let result = generate::table_length(&call.input);
+        exact += usize::from(answer == 0 && length > 0 && length == call.output.len());
+        short += usize::from(answer == 12 && result == call.output.len() + 1);
+        grown += usize::from(answer == 12 && call.output.len() >= result);
+    }
+    println!("answers {both:?}, bad lengths {lengths}, not the first row {later}");
+    println!("exact {exact}, short {short}, past the limit {grown}, of the other width {other}");
+    println!("fields to blame {blamed:?}");
+    for answer in [0, 4, 12] {
+        assert!(both.iter().all(|counts| counts[answer] >= 500), "{answer}");
+    }
+    assert!(bad_widths >= 500 && lengths >= 300 && later >= 1_000 && other >= 100);
+    assert!(exact >= 1_000 && short >= 1_000 && grown >= 30);
+    assert!(blamed.iter().all(|count| *count >= 50));
+}
+
+/// In each field of a row there are near rows, all bits of it and more.
+#[test]
+fn near_rows_change_every_field() {
+    let mut rng = Rng::new(SEED);
+    for width in LINEAR_WIDTHS {
+        let context = model::Context {
+            linear_width: width,
+            ..generate::context(&mut rng)
+        };
+        let table = generate::table(&mut rng, &context, 3);
+        let rows = generate::rows_of(&table);
+        assert_eq!(rows.len(), 3 * FIXED_ROW);
+        assert_eq!(generate::table_length(&rows), table.len());
+        let near = generate::near_imports(&rows);
+        for at in [0, 1, 2] {
+            let part = at * FIXED_ROW..(at + 1) * FIXED_ROW;
+            for (nth, (_, place)) in FIXED_ROW_FIELDS.iter().enumerate() {
+                let number = |rows: &[u8]| row_field(&rows[part.clone()], nth);
+                let changed = |near: &&Vec<u8>| number(near) != number(&rows);
+                let count = near.iter().filter(changed).count();
+                assert!(count > 8 * place.len(), "row {at}, field {nth}: {count}");
+            }
+        }
+        assert!(near.iter().all(|near| near.len() == rows.len()));
+    }
+    assert!(generate::near_imports(&[]).is_empty());
+}
+
 /// Absent and outside at every pair of levels, and every pair of page sizes.
 #[test]
 fn every_ending_of_the_walk_is_reached() {
@@ -698,6 +819,11 @@ fn the_same_seed_gives_the_same() {
         }
         let (ours, theirs) = (widening(&mut one), widening(&mut two));
         assert_eq!(format!("{ours}"), format!("{theirs}"));
+        for call in [generate::export, generate::import] {
+            let (ours, theirs) = (call(&mut one), call(&mut two));
+            assert_eq!(format!("{ours}"), format!("{theirs}"));
+            assert_eq!(ours.output, theirs.output);
+        }
         let claimed = |rng: &mut Rng| {
             let case = case(rng);
             generate::claim(rng, &case.context, &case.table, &case.table)

@@ -20,6 +20,15 @@ impl LinearWidth {
         }
     }
 
+    /// The width that a number stands for; None for any but 48 and 57.
+    pub fn exactly(number: u64) -> Option<LinearWidth> {
+        match number {
+            48 => Some(LinearWidth::Bits48),
+            57 => Some(LinearWidth::Bits57),
+            _ => None,
+        }
+    }
+
     fn bits(self) -> u32 {
         match self {
             LinearWidth::Bits48 => 48,

@@ -14,13 +14,14 @@
 //! * [`reason`]: why a mapping went or stayed (Ask 1).
 //! * [`step()`], [`lookup()`], [`replay()`]: what the model does.
 //! * [`tally`]: the tally beside the table (Ask 7).
+//! * [`rows`]: a table as fixed rows and back (Ask 11).
 //! * [`widen()`]: a stored 48-bit table at 57 bits (Ask 12).
 //! * [`claim`]: another simulator's table judged (Ask 8).
 //! * [`levels`]: two levels of TLB (Ask 10).
 //! * [`stream`]: a log as it arrives, in fragments (Ask 3).
 //! * [`walk()`]: a guest's tables walked through EPT (Ask 13).
 //! * [`book`]: a whole run judged from its events alone.
-//! * [`tuned`]: the same steps and converter, written for speed.
+//! * [`tuned`]: the same steps, rows and converter, written for speed.
 
 pub mod address;
 pub mod book;
@@ -34,6 +35,7 @@ pub mod lookup;
 pub mod mapping;
 pub mod reason;
 pub mod replay;
+pub mod rows;
 pub mod scope;
 pub mod step;
 pub mod stream;
@@ -48,6 +50,7 @@ pub use context::{Context, Place};
 pub use lookup::{lookup, usable, Address};
 pub use reason::{explain, Reason};
 pub use replay::{print, replay, Line};
+pub use rows::{export, import, Converted};
 pub use step::{step, Step};
 pub use tally::{count, counted_step, Kinds, Tally, PCIDS};
 pub use walk::{walk, Walk};

@@ -1,5 +1,5 @@
-//! The same steps, plain and counted, lookup, replay and converter, as a good
-//! engineer would tune them.
+//! The same steps, plain and counted, lookup, replay, rows and converter, as a
+//! good engineer would tune them.
 //!
 //! Nothing is allocated. One pass judges the table and one writes; the event
 //! is decoded once; of a record only the bytes that a test needs are read;
@@ -11,6 +11,8 @@
 //! off in the one that writes. Tests compare this with the plain model; the
 //! benchmark uses it as its measure.
 
+mod rows;
+
 use crate::address::{guest_physical_page, LinearWidth};
 use crate::context::Context;
 use crate::event::{self, ep4ta, Event};
@@ -21,6 +23,7 @@ use crate::step::Step;
 use crate::tally::{Kinds, PCIDS};
 use crate::widen::Widened;
 use crate::{LOG_LIMIT, TABLE_LIMIT};
+pub use rows::{export, import};
 use std::ops::Range;
 
 /// The length of a record by its kind; 0 for what is no record.

@@ -518,3 +518,49 @@ fn lookups_in_two_levels() {
     }
     assert!(reached.iter().all(|count| *count > 500), "{reached:?}");
 }
+
+/// The plain rows against the tuned ones, out and in, on inputs and buffers of
+/// every sort, and back again where the call is accepted.
+#[test]
+fn fixed_rows() {
+    println!("seed {SEED}");
+    type Call = fn(u64, &[u8], &mut [u8]) -> model::Converted;
+    type Draw = fn(&mut Rng) -> generate::RowsCall;
+    let mut rng = Rng::new(SEED);
+    let ways: [(Draw, [Call; 2], Call); 2] = [
+        (
+            generate::export,
+            [model::export, tuned::export],
+            model::import,
+        ),
+        (
+            generate::import,
+            [model::import, tuned::import],
+            model::export,
+        ),
+    ];
+    for (draw, [plainly, fast], back) in ways {
+        let mut reached = [0; 13];
+        for number in 0..20_000 {
+            let call = draw(&mut rng);
+            let mut plain = call.output.clone();
+            let mut tuned = call.output.clone();
+            let expected = plainly(call.linear_width, &call.input, &mut plain);
+            let got = fast(call.linear_width, &call.input, &mut tuned);
+            let shown = || format!("seed {SEED}, case {number}\n{call}");
+            assert_eq!(expected, got, "{}", shown());
+            assert_eq!(plain, tuned, "{}", shown());
+            assert_eq!(plain[expected.length..], call.output[expected.length..]);
+            reached[expected.answer as usize] += 1;
+            if expected.answer == 0 {
+                let mut again = vec![0; call.input.len()];
+                let written = &plain[..expected.length];
+                let returned = back(call.linear_width, written, &mut again);
+                assert_eq!((returned.answer, returned.length), (0, again.len()));
+                assert_eq!(again, call.input, "{}", shown());
+            }
+        }
+        println!("answers reached: {reached:?}");
+        assert!(reached[0] > 5_000 && reached[1] > 500 && reached[12] > 500);
+    }
+}

@@ -45,7 +45,8 @@
 //! span, and of each PCID. [`plain_step`] does without.
 //!
 //! A context has a linear width, 48 or 57 bits. [`widen`] makes a table of the
-//! second sort from a stored one of the first.
+//! second sort from a stored one of the first. [`export_rows`] makes rows of 32 bytes
+//! from a table, one for each record, and [`import_rows`] a table from such rows.
 //!
 //! [`step_levels`] and [`lookup_levels`] are for two levels of TLB: a small table
 //! before the large one.
@@ -61,6 +62,7 @@ mod levels;
 mod logs;
 pub mod raw;
 mod reason;
+mod rows;
 mod stream;
 mod tally;
 mod walk;
@@ -71,10 +73,11 @@ pub use levels::{lookup_levels, lookup_levels_flat, step_levels, step_levels_fla
 pub use levels::{Found, Level, LevelAfter, LevelStep};
 pub use logs::{event_length, events, lines, replay, replay_flat, Line, Replay};
 pub use raw::{
-    FlatContext, FlatFinished, FlatJudgement, FlatLevel, FlatLevelStep, FlatReason, FlatReplayed,
-    FlatStep, FlatTaken, FlatWalk, Kinds, LevelPart, Part, Reader, Row, Widened,
+    Converted, FlatContext, FlatFinished, FlatJudgement, FlatLevel, FlatLevelStep, FlatReason,
+    FlatReplayed, FlatStep, FlatTaken, FlatWalk, Kinds, LevelPart, Part, Reader, Row, Widened,
 };
 pub use reason::Reason;
+pub use rows::{export_rows, import_rows};
 use std::ops::Range;
 pub use stream::Taken;
 pub use tally::{count, step, step_flat, Tally};
@@ -88,6 +91,9 @@ pub const LOG_LIMIT: usize = 65_536;
 
 /// The bytes of one row of a replay.
 pub const ROW: usize = 24;
+
+/// The bytes of one fixed row, which holds a record of a table.
+pub const FIXED_ROW: usize = 32;
 
 /// How many PCIDs there are, 0 to 4,095; as many counts a tally has for them.
 pub const PCIDS: usize = 4_096;

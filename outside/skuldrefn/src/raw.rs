@@ -110,6 +110,18 @@ pub struct Widened {
     pub length: usize,
 }
 
+/// What export and import of fixed rows report. Export answers 0, 1, 2, 3 or 12,
+/// import 0, 1, 4 or 12. `row` is the number, from 1, of the first bad row, with
+/// import's answer 4, and 0 for a bad length; else 0. `length` is that of what was
+/// written, 0 on a refusal.
+#[repr(C)]
+#[derive(Clone, Copy, Debug, PartialEq, Eq)]
+pub struct Converted {
+    pub answer: u64,
+    pub row: u64,
+    pub length: usize,
+}
+
 /// What a claimed table is judged as: 0 accepted, 1 refused event, 2 malformed
 /// claim, 3 unmatched record. `answer` and `rule` are the refused step's, and
 /// `position` is that of the unmatched record; else 0.
@@ -284,6 +296,22 @@ extern "C" {
         new_table: *mut u8,
         new_length: usize,
     ) -> Widened;
+
+    pub fn skuldrefn_export(
+        linear_width: u64,
+        table: *const u8,
+        table_length: usize,
+        rows: *mut u8,
+        rows_length: usize,
+    ) -> Converted;
+
+    pub fn skuldrefn_import(
+        linear_width: u64,
+        rows: *const u8,
+        rows_length: usize,
+        table: *mut u8,
+        table_length: usize,
+    ) -> Converted;
 
     pub fn skuldrefn_judge(
         context: FlatContext,

@@ -1,9 +1,9 @@
 //! The wrapper itself: document 01's example, flat contexts, claims, 57-bit
-//! addresses, tallies, empty slices and null.
+//! addresses, fixed rows, tallies, empty slices and null.
 
 use skuldrefn::{raw, Address, Context, FlatContext, FlatReason, FlatStep, Kinds, Place, Reason};
+use skuldrefn::{Converted, Tally, Widened, FIXED_ROW, PCIDS, TABLE_LIMIT};
 use skuldrefn::{FlatJudgement, Judgement};
-use skuldrefn::{Tally, Widened, PCIDS, TABLE_LIMIT};
 use skuldrefn::{PROGRAM_CAPABILITY, PROGRAM_LINEAR_WIDTH, PROGRAM_WIDTH};
 use std::ptr::{null, null_mut};
 
@@ -497,6 +497,94 @@ fn the_converter() {
         assert_eq!(empty, refused(0));
         let no_room = raw::skuldrefn_widen(A.as_ptr(), 17, null_mut(), 0);
         assert_eq!(no_room, refused(12));
+    }
+}
+
+/// A and W as fixed rows.
+const ROWS: [[u8; 32]; 2] = [
+    [
+        1, 0, 0, 0, 5, 0, 1, 0, 0x45, 0x23, 0x01, 0, 0, 0, 0, 0, 0xDE, 0xBC, 0x0A, 0, 0, 0, 0, 0,
+        0, 0, 0, 0, 0, 0, 0, 0,
+    ],
+    [
+        7, 0, 0, 0, 5, 0, 1, 0, 0x45, 0x23, 0x01, 0, 0, 0x10, 0, 0, 0xDE, 0xBC, 0x0A, 0, 0, 0, 0,
+        0, 0, 0, 0, 0, 0, 0, 0, 0,
+    ],
+];
+
+#[test]
+fn fixed_rows() {
+    let [a, w] = ROWS;
+    for (width, record, row) in [(48, &A[..], a), (57, &W, w)] {
+        let table = record.repeat(2);
+        let mut rows = [0xA5; 70];
+        let exported = skuldrefn::export_rows(width, &table, &mut rows);
+        let due = Converted {
+            answer: 0,
+            row: 0,
+            length: 2 * FIXED_ROW,
+        };
+        assert_eq!(exported, due);
+        assert_eq!(rows[..64], row.repeat(2));
+        assert_eq!(rows[64..], [0xA5; 6]);
+        let mut again = [0xA5; 40];
+        let imported = skuldrefn::import_rows(width, &rows[..64], &mut again);
+        let length = table.len();
+        assert_eq!(imported, Converted { length, ..due });
+        assert_eq!(again[..length], table);
+        assert!(again[length..].iter().all(|byte| *byte == 0xA5));
+    }
+}
+
+/// Each refusal, in its order; nothing is written.
+#[test]
+fn fixed_rows_that_are_refused() {
+    let [a, w] = ROWS;
+    let refused = |answer, row| Converted {
+        answer,
+        row,
+        length: 0,
+    };
+    let mut out = [0xA5; 33];
+    let long = vec![0; TABLE_LIMIT + 1];
+    for (width, table, answer) in [
+        (0, &long[..], 1),
+        (56, &A, 1),
+        (48, &long, 2),
+        (48, &W, 3),
+        (57, &A, 3),
+        (48, &A[..16], 3),
+        (48, &A.repeat(2), 12),
+    ] {
+        let exported = skuldrefn::export_rows(width, table, &mut out);
+        assert_eq!(exported, refused(answer, 0));
+    }
+    let mut set = a;
+    set[31] = 1;
+    for (width, rows, answer, row) in [
+        (49, a[..31].to_vec(), 1, 0),
+        (48, a[..31].to_vec(), 4, 0),
+        (48, [a, set, w].concat(), 4, 2),
+        (48, [a, a, w].concat(), 4, 3),
+        (57, a.to_vec(), 4, 1),
+        (48, [a, a].concat(), 12, 0),
+    ] {
+        let imported = skuldrefn::import_rows(width, &rows, &mut out);
+        assert_eq!(imported, refused(answer, row));
+    }
+    assert_eq!(out, [0xA5; 33]);
+    assert_eq!(skuldrefn::export_rows(48, &[], &mut []), refused(0, 0));
+    assert_eq!(skuldrefn::import_rows(57, &[], &mut []), refused(0, 0));
+    // SAFETY: null goes with length 0, which the header allows.
+    unsafe {
+        let empty = raw::skuldrefn_export(48, null(), 0, null_mut(), 0);
+        assert_eq!(empty, refused(0, 0));
+        let no_room = raw::skuldrefn_export(48, A.as_ptr(), 17, null_mut(), 0);
+        assert_eq!(no_room, refused(12, 0));
+        let empty = raw::skuldrefn_import(57, null(), 0, null_mut(), 0);
+        assert_eq!(empty, refused(0, 0));
+        let no_room = raw::skuldrefn_import(48, a.as_ptr(), 32, null_mut(), 0);
+        assert_eq!(no_room, refused(12, 0));
     }
 }
 

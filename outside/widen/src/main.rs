@@ -6,7 +6,7 @@
 //! refusal, an input that cannot be read and an output that cannot be written;
 //! 2 for wrong words.
 
-use skuldrefn::{event_length, TABLE_LIMIT};
+use skuldrefn::TABLE_LIMIT;
 use std::env;
 use std::ffi::{OsStr, OsString};
 use std::fs::File;
@@ -101,35 +101,18 @@ fn reason(answer: u64, table: &[u8]) -> String {
     }
 }
 
-/// Which record of a refused table is the first that is not valid, and why.
+/// Which record of a refused table is the first that is not valid, and why. A table
+/// is whole, valid records exactly if each is valid when they are taken one after the
+/// other by the length that their kind says. So the library is asked to convert each
+/// record alone.
 fn bad_record(table: &[u8]) -> String {
-    let Some((start, number)) = first_bad(table) else {
-        return "the table is not whole, valid records of 48-bit linear addresses".to_string();
-    };
-    let rest = &table[start..];
-    let why = convert::fault(48, rest);
-    let why = why.unwrap_or_else(|| format!("kind {:#x} is no mapping's", rest[0]));
-    format!("record {number} at byte {start} is no valid record of 48-bit linear addresses: {why}")
-}
-
-/// Where the first bad record of a table starts, and its number from 1. A table
-/// is whole, valid records exactly if each is valid when they are taken one
-/// after the other by the length that their kind says. So the library is asked
-/// for that length, and to convert each record alone.
-fn first_bad(table: &[u8]) -> Option<(usize, usize)> {
-    let mut start = 0;
-    for number in 1.. {
-        let rest = &table[start..];
-        if rest.is_empty() {
-            break;
-        }
-        let length = event_length(48, rest);
-        match rest.get(..length) {
-            Some(record) if length > 0 && is_valid(record) => start += length,
-            _ => return Some((start, number)),
-        }
+    match convert::bad_record(48, table, is_valid) {
+        Some(bad) => format!(
+            "record {} at byte {} is no valid record of 48-bit linear addresses: {}",
+            bad.number, bad.byte, bad.why
+        ),
+        None => "the table is not whole, valid records of 48-bit linear addresses".to_string(),
     }
-    None
 }
 
 /// Whether bytes are one valid record; there is room for it at 57 bits.

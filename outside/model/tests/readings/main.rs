@@ -6,6 +6,7 @@ mod common;
 
 mod answers;
 mod ask_10;
+mod ask_11;
 mod ask_12;
 mod ask_13;
 mod ask_2;

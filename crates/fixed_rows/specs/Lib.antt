@@ -1,0 +1,4 @@
+pub mod FixedRows
+pub mod Theorem
+pub mod Laws
+pub mod Cards

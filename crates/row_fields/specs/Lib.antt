@@ -1,0 +1,5 @@
+pub mod Fields
+pub mod Rows
+pub mod Pieces
+pub mod Laws
+pub mod Cards
