@@ -11,6 +11,7 @@ use std::cmp::Reverse;
 use std::collections::BTreeMap;
 use std::ffi::OsString;
 use std::fs;
+use std::io;
 use std::panic::{catch_unwind, AssertUnwindSafe};
 use std::path::{Path, PathBuf};
 use std::sync::atomic::{AtomicUsize, Ordering};
@@ -93,7 +94,7 @@ impl Outcome {
 }
 
 pub fn audit(words: &Words) -> Found {
-    let logs = logs(&words.logs)?;
+    let logs = logs(&words.logs);
     let any_length = words.flag("--any-length");
     let mut outcomes = on_all_cores(&logs, |log| audit_log(log, &words.settings, any_length));
     outcomes.sort_by_cached_key(|outcome| {
@@ -122,31 +123,33 @@ pub fn audit(words: &Words) -> Found {
     Ok(found > 0)
 }
 
-/// The logs that the words name; a folder stands for its files that end in .log.
-fn logs(words: &[OsString]) -> Result<Vec<PathBuf>, Failure> {
+/// The logs that the words name. A folder stands for its files that end in .log; one
+/// that has none is handed back itself.
+fn logs(words: &[OsString]) -> Vec<PathBuf> {
     let mut logs = Vec::new();
     for word in words {
         let path = Path::new(word);
-        if !path.is_dir() {
-            logs.push(path.to_path_buf());
-            continue;
-        }
-        let unread = |error| Failure::new(format!("{} cannot be read: {error}", path.display()));
-        let mut own = Vec::new();
-        for entry in fs::read_dir(path).map_err(unread)? {
-            let file = entry.map_err(unread)?.path();
-            if file.extension().is_some_and(|end| end == "log") && !file.is_dir() {
-                own.push(file);
-            }
-        }
+        let mut own = match path.is_dir() {
+            true => logs_in(path).unwrap_or_default(),
+            false => Vec::new(),
+        };
         if own.is_empty() {
-            let name = path.display();
-            return Err(Failure::new(format!(
-                "{name} has no file that ends in .log"
-            )));
+            own.push(path.to_path_buf());
         }
         own.sort();
         logs.extend(own);
+    }
+    logs
+}
+
+/// The files in a folder that end in .log.
+fn logs_in(folder: &Path) -> io::Result<Vec<PathBuf>> {
+    let mut logs = Vec::new();
+    for entry in fs::read_dir(folder)? {
+        let file = entry?.path();
+        if file.extension().is_some_and(|end| end == "log") && !file.is_dir() {
+            logs.push(file);
+        }
     }
     Ok(logs)
 }
@@ -205,6 +208,12 @@ fn run_log(
     any_length: bool,
     outcome: &mut Outcome,
 ) -> Result<Option<String>, Failure> {
+    if path.is_dir() {
+        return Ok(Some(match logs_in(path) {
+            Ok(_) => "a folder that has no file that ends in .log".to_string(),
+            Err(error) => format!("a folder that cannot be read: {error}"),
+        }));
+    }
     let log = Log::read(path.as_os_str(), settings.linear_width)?;
     let beside = path.with_extension("renters");
     let renters = if path.extension().is_some() && beside.is_file() {
@@ -231,15 +240,15 @@ fn run_log(
         Some(_) => outcome.leaks = Some(findings),
         None => outcome.stale = Some(findings),
     }
-    let stop = log.stop(last).map(|why| {
+    let amiss = log.amiss(last).map(|why| {
         let name = format!("{}: ", log.name);
         why.strip_prefix(&name).unwrap_or(&why).to_string()
     });
     let length = log.bytes.len();
     let long = (length > LOG_LIMIT && !any_length)
         .then(|| format!("too long: {length} bytes, and replay takes 65,536"));
-    Ok(match (long, stop) {
-        (Some(long), Some(stop)) => Some(format!("{long}; {stop}")),
-        (long, stop) => long.or(stop),
+    Ok(match (long, amiss) {
+        (Some(long), Some(amiss)) => Some(format!("{long}; {amiss}")),
+        (long, amiss) => long.or(amiss),
     })
 }

@@ -71,7 +71,7 @@ pub fn compare(words: &Words) -> Found {
         Log::read(&words.logs[1], width)?,
     ];
     let mut runs = [Run::new(&words.settings), Run::new(&words.settings)];
-    let mut events = [logs[0].events(), logs[1].events()].map(Box::new);
+    let mut events = [logs[0].events(), logs[1].events()];
     let mut last: [Option<Event>; 2] = [None, None];
     let mut counts = [0, 0];
     let mut parting = None;

@@ -2,7 +2,7 @@
 //! where it is not known who rents, stale translations.
 
 use crate::log::{Event, Log};
-use crate::names::Fields;
+use crate::names::{is_translation, Fields};
 use crate::renters::Renters;
 use crate::run::{is_usable, Run, Taken};
 use crate::words::Settings;
@@ -10,7 +10,6 @@ use crate::Failure;
 use skuldrefn::{Context, Place};
 use std::collections::{BTreeMap, BTreeSet};
 
-const ENTRY: u8 = 20;
 const SWITCH: u8 = 24;
 
 /// A mapping that should not be usable any more.
@@ -29,8 +28,8 @@ pub struct Finding {
 #[derive(Default)]
 pub struct Findings {
     pub new: Vec<Finding>,
-    /// How many mappings the renter who comes in can still use of which it was
-    /// told before.
+    /// How many more of these there are that were told before: mappings that the
+    /// renter who comes in can still use, or translations older than a new one.
     pub again: usize,
     /// The renter who comes in with it.
     pub entered: Option<usize>,
@@ -43,8 +42,8 @@ pub struct Finder<'a> {
     here: Option<usize>,
     /// Who made each mapping, by the number of its event.
     owners: BTreeMap<usize, usize>,
-    /// Mappings and who can use them, as they were told.
-    told: BTreeSet<(usize, usize)>,
+    /// Mappings and who can use them, as they were told; nobody of a stale one.
+    told: BTreeSet<(usize, Option<usize>)>,
 }
 
 impl Finder<'_> {
@@ -63,9 +62,9 @@ impl Finder<'_> {
             return Ok(Findings::default());
         }
         let Some(renters) = self.renters else {
-            return Ok(stale(run, event));
+            return Ok(self.stale(run, event));
         };
-        if event.kind() == ENTRY {
+        if event.is_entry() {
             self.here = Some(renters.of(event.number)?);
         }
         if !matches!(run.context.place, Place::Guest { .. }) {
@@ -74,7 +73,7 @@ impl Finder<'_> {
         let Some(here) = self.here else {
             return Ok(Findings::default());
         };
-        if event.kind() == ENTRY || event.kind() == SWITCH {
+        if event.is_entry() || event.kind() == SWITCH {
             return Ok(self.leaks(run, event, here));
         }
         if common::is_mapping_kind(event.kind()) {
@@ -87,7 +86,7 @@ impl Finder<'_> {
     /// new PCID make one usable that was not, and MOV to CR3 without bit 63 takes those
     /// of its PCID first. A creation's own is the renter's.
     fn leaks(&mut self, run: &Run, event: &Event, here: usize) -> Findings {
-        let enters = event.kind() == ENTRY;
+        let enters = event.is_entry();
         let mut findings = Findings {
             entered: enters.then_some(here),
             ..Findings::default()
@@ -100,7 +99,7 @@ impl Finder<'_> {
             if !is_usable_somewhere(&run.context, record) {
                 continue;
             }
-            if self.told.insert((created, here)) {
+            if self.told.insert((created, Some(here))) {
                 findings.new.push(Finding {
                     at: event.number,
                     created,
@@ -113,6 +112,38 @@ impl Finder<'_> {
         }
         findings
     }
+
+    /// The older translations that are usable at an address of the one that was
+    /// created, and lead to another frame there.
+    fn stale(&mut self, run: &Run, event: &Event) -> Findings {
+        let mut findings = Findings::default();
+        if !is_translation(event.kind()) {
+            return findings;
+        }
+        let new = Fields::of(event.bytes);
+        for (created, record) in run.mappings() {
+            if record[0] != new.kind || created == event.number {
+                continue;
+            }
+            let old = Fields::of(record);
+            if !leads_elsewhere(&old, &new)
+                || !both_usable(run, (&old, record), (&new, event.bytes))
+            {
+                continue;
+            }
+            if self.told.insert((created, None)) {
+                findings.new.push(Finding {
+                    at: event.number,
+                    created,
+                    record: record.to_vec(),
+                    between: None,
+                });
+            } else {
+                findings.again += 1;
+            }
+        }
+        findings
+    }
 }
 
 /// Whether a record is usable at an address that it covers. At one it is so exactly
@@ -120,34 +151,6 @@ impl Finder<'_> {
 fn is_usable_somewhere(context: &Context, record: &[u8]) -> bool {
     let address = Fields::of(record).address(context.linear_width);
     is_usable(context, record, address)
-}
-
-/// The older translations that are usable at an address of the one that was created,
-/// and lead to another frame there.
-fn stale(run: &Run, event: &Event) -> Findings {
-    let mut findings = Findings::default();
-    if !common::is_mapping_kind(event.kind()) {
-        return findings;
-    }
-    let new = Fields::of(event.bytes);
-    if !new.is_translation() {
-        return findings;
-    }
-    for (created, record) in run.mappings() {
-        if record[0] != new.kind || created == event.number {
-            continue;
-        }
-        let old = Fields::of(record);
-        if leads_elsewhere(&old, &new) && both_usable(run, (&old, record), (&new, event.bytes)) {
-            findings.new.push(Finding {
-                at: event.number,
-                created,
-                record: record.to_vec(),
-                between: None,
-            });
-        }
-    }
-    findings
 }
 
 /// Whether two records have pages in common, and lead to two frames there. The n-th

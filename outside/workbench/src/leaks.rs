@@ -1,86 +1,20 @@
 //! `leaks LOG [renters=FILE]`: what one renter can use of another's.
 
 use crate::finder::{watch, Finding};
+use crate::invalidations::{Invalidation, Invalidations, LISTED};
 use crate::json::Json;
 use crate::log::{Event, Log};
 use crate::names;
 use crate::renters::Renters;
-use crate::run::Taken;
 use crate::words::Words;
-use crate::{print, tell, Found};
+use crate::{tell, Found};
 use common::{encode, field};
 use skuldrefn::{explain, Context, Reason};
-use std::fmt::Write;
-
-/// How many invalidations are listed of a mapping, if not all.
-const LISTED: usize = 10;
+use std::io::{self, BufWriter, Write};
+use std::ops::Range;
 
 const INVVPID: u8 = 16;
 const INVEPT: u8 = 17;
-const ENTRY: u8 = 20;
-const EXIT: u8 = 21;
-
-/// An event that could have dropped a mapping.
-pub struct Invalidation<'a> {
-    event: Event<'a>,
-    before: Context,
-    answer: u64,
-    rule: u64,
-}
-
-impl<'a> Invalidation<'a> {
-    /// None for an event that invalidates nothing of its kind.
-    pub fn of(event: &Event<'a>, taken: &Taken) -> Option<Invalidation<'a>> {
-        let is_one = match event.kind() {
-            16..=19 | 26 | 27 => event.whole,
-            // Those without VPIDs invalidate.
-            ENTRY | EXIT => taken.answer == 0,
-            _ => false,
-        };
-        is_one.then_some(Invalidation {
-            event: *event,
-            before: taken.before,
-            answer: taken.answer,
-            rule: taken.rule,
-        })
-    }
-
-    /// Why it left a record, in words; None where it has no scope.
-    fn spared(&self, record: &[u8]) -> Option<String> {
-        if self.answer != 0 {
-            return Some(names::answer(self.answer, self.rule));
-        }
-        match explain(&self.before, record, self.event.bytes) {
-            Reason::NoScope => None,
-            reason => {
-                assert_ne!(reason, Reason::InScope, "event {}", self.event.number);
-                Some(names::reason(reason).to_string())
-            }
-        }
-    }
-}
-
-/// An invalidation that left a mapping: its number, its line, and why.
-pub type Spared = (usize, String, String);
-
-/// The invalidations between two events that left a record.
-pub fn spared(
-    width: u64,
-    invalidations: &[Invalidation],
-    record: &[u8],
-    from: usize,
-    to: usize,
-) -> Vec<Spared> {
-    let first = invalidations.partition_point(|one| one.event.number <= from);
-    let those = invalidations[first..].iter();
-    those
-        .take_while(|one| one.event.number < to)
-        .filter_map(|one| {
-            let line = names::event(width, one.event.bytes);
-            Some((one.event.number, line, one.spared(record)?))
-        })
-        .collect()
-}
 
 /// The VM entry by which the guest of a finding was entered, and the context before
 /// it.
@@ -106,7 +40,8 @@ impl Entered<'_> {
 /// A finding with all that is said of it.
 struct Told {
     finding: Finding,
-    spared: Vec<Spared>,
+    /// The invalidations since it was created, all of which left it.
+    since: Range<usize>,
     mend: Option<(usize, String)>,
 }
 
@@ -119,163 +54,200 @@ struct Report {
     again: usize,
 }
 
+/// All that is said of a log.
+struct Leaks<'a> {
+    linear_width: u64,
+    renters: Option<&'a Renters>,
+    /// How many invalidations are listed of a mapping, at most.
+    most: usize,
+    invalidations: Invalidations<'a>,
+    reports: Vec<Report>,
+    /// How many VM entries were accepted.
+    entries: usize,
+    /// How many translations were created.
+    creations: usize,
+}
+
 pub fn leaks(words: &Words) -> Found {
     let width = words.settings.linear_width;
     let log = Log::read(&words.logs[0], width)?;
     let renters = Renters::given(words, &log)?;
-    let mut reports = Vec::new();
-    let mut invalidations = Vec::new();
+    let renters = renters.as_ref();
+    let all = words.flag("--all");
+    let mut leaks = Leaks {
+        linear_width: width,
+        renters,
+        most: if all { usize::MAX } else { LISTED },
+        invalidations: Invalidations::default(),
+        reports: Vec::new(),
+        entries: 0,
+        creations: 0,
+    };
     let mut entered = None;
-    // How many VM entries were accepted, and how many translations created.
-    let (mut entries, mut creations) = (0, 0);
-    let last = watch(
-        &log,
-        &words.settings,
-        renters.as_ref(),
-        |_, event, taken, found| {
-            if taken.answer == 0 && event.kind() == ENTRY {
-                entries += 1;
-                entered = Some(Entered {
-                    event: *event,
-                    before: taken.before,
-                });
-            }
-            if taken.answer == 0 && matches!(event.kind(), 1..=3 | 7 | 8) {
-                creations += 1;
-            }
-            if !found.new.is_empty() || found.again > 0 {
-                let told = found.new.iter().map(|finding| {
-                    let (record, from) = (&finding.record, finding.created);
-                    let mend = entered.filter(|_| finding.between.is_some());
-                    let mend = mend.and_then(|entered: Entered| {
-                        Some((entered.event.number, entered.mend(width, record)?))
-                    });
-                    Told {
-                        finding: finding.clone(),
-                        spared: spared(width, &invalidations, record, from, event.number),
-                        mend,
-                    }
-                });
-                reports.push(Report {
-                    at: event.number,
-                    byte: event.byte,
-                    event: names::event(width, event.bytes),
-                    told: told.collect(),
-                    again: found.again,
-                });
-            }
-            invalidations.extend(Invalidation::of(event, taken));
-        },
-    )?;
-    let count: usize = reports.iter().map(|report| report.told.len()).sum();
-    let stop = log.stop(last);
-    if words.flag("--json") {
-        let names = renters.as_ref();
-        let findings = reports.iter().flat_map(|report| {
-            let json = |told| told_json(width, report, told, names);
-            report.told.iter().map(json)
-        });
-        let json = Json::object()
-            .with("findings", Json::list(findings))
-            .with("entries", entries)
-            .with("translations", creations)
-            .text("stopped", stop.as_deref().unwrap_or(""))
-            .end();
-        print(&format!("{json}\n"))?;
-    } else {
-        let most = if words.flag("--all") {
-            usize::MAX
-        } else {
-            LISTED
-        };
-        let mut text = String::new();
-        for report in &reports {
-            text += &report_text(width, report, renters.as_ref(), most);
+    let last = watch(&log, &words.settings, renters, |_, event, taken, found| {
+        if taken.answer == 0 && event.is_entry() {
+            leaks.entries += 1;
+            entered = Some(Entered {
+                event: *event,
+                before: taken.before,
+            });
         }
-        let _ = match renters {
-            Some(_) => writeln!(text, "leaks: {count}, in {entries} VM entries"),
-            None => writeln!(
-                text,
-                "stale translations: {count}, in {creations} translations created"
-            ),
-        };
-        print(&text)?;
+        if taken.answer == 0 && names::is_translation(event.kind()) {
+            leaks.creations += 1;
+        }
+        if !found.new.is_empty() || found.again > 0 {
+            let told = found.new.iter().map(|finding| leaks.told(finding, entered));
+            let report = Report {
+                at: event.number,
+                byte: event.byte,
+                event: names::event(width, event.bytes),
+                told: told.collect(),
+                again: found.again,
+            };
+            leaks.reports.push(report);
+        }
+        leaks.invalidations.add(event, taken);
+    })?;
+    let amiss = log.amiss(last);
+    let mut out = BufWriter::new(io::stdout().lock());
+    if words.flag("--json") {
+        leaks.json(&mut out, amiss.as_deref().unwrap_or(""))?;
+    } else {
+        leaks.text(&mut out)?;
     }
-    if let Some(why) = &stop {
+    out.flush()?;
+    if let Some(why) = &amiss {
         tell("leaks", why);
     }
-    Ok(count > 0 || stop.is_some())
+    Ok(leaks.count() > 0 || amiss.is_some())
 }
 
-fn report_text(width: u64, report: &Report, renters: Option<&Renters>, most: usize) -> String {
-    let Report {
-        at, byte, event, ..
-    } = report;
-    let mut text = format!("event {at}, at byte {byte}: {event}\n");
-    if report.again > 0 {
-        let again = report.again;
-        let _ = writeln!(text, "  still usable, told before: {again}");
+impl Leaks<'_> {
+    fn count(&self) -> usize {
+        self.reports.iter().map(|report| report.told.len()).sum()
     }
-    for told in &report.told {
-        let finding = &told.finding;
-        let created = finding.created;
-        let record = names::event(width, &finding.record);
-        let _ = match (finding.between, renters) {
-            (Some((owner, user)), Some(renters)) => writeln!(
-                text,
-                "  {} can use a mapping of {}, created by event {created}: {record}",
+
+    /// What is to be said of a finding of the event that is next.
+    fn told(&self, finding: &Finding, entered: Option<Entered>) -> Told {
+        let mend = entered.filter(|_| finding.between.is_some());
+        Told {
+            finding: finding.clone(),
+            since: self.invalidations.since(finding.created),
+            mend: mend.and_then(|entered| {
+                let event = entered.mend(self.linear_width, &finding.record)?;
+                Some((entered.event.number, event))
+            }),
+        }
+    }
+
+    /// How many invalidations of a finding are not listed, and those that are.
+    fn listed(&self, told: &Told) -> (usize, &[Invalidation<'_>]) {
+        self.invalidations.last(told.since.clone(), self.most)
+    }
+
+    fn text(&self, out: &mut impl Write) -> io::Result<()> {
+        for report in &self.reports {
+            let (at, byte, event) = (report.at, report.byte, &report.event);
+            writeln!(out, "event {at}, at byte {byte}: {event}")?;
+            if report.again > 0 {
+                writeln!(out, "  still usable, told before: {}", report.again)?;
+            }
+            for told in &report.told {
+                self.told_text(told, out)?;
+            }
+        }
+        let (count, entries, creations) = (self.count(), self.entries, self.creations);
+        match self.renters {
+            Some(_) => writeln!(out, "leaks: {count}, in {entries} VM entries"),
+            None => writeln!(
+                out,
+                "stale translations: {count}, in {creations} translations created"
+            ),
+        }
+    }
+
+    fn told_text(&self, told: &Told, out: &mut impl Write) -> io::Result<()> {
+        let Finding {
+            created,
+            record,
+            between,
+            ..
+        } = &told.finding;
+        let line = names::event(self.linear_width, record);
+        match between.zip(self.renters) {
+            Some(((owner, user), renters)) => writeln!(
+                out,
+                "  {} can use a mapping of {}, created by event {created}: {line}",
                 renters.name(user),
                 renters.name(owner)
             ),
-            _ => writeln!(
-                text,
-                "  beside an older translation, created by event {created}: {record}"
+            None => writeln!(
+                out,
+                "  beside an older translation, created by event {created}: {line}"
             ),
-        };
-        let earlier = told.spared.len().saturating_sub(most);
+        }?;
+        let (earlier, listed) = self.listed(told);
         if earlier > 0 {
-            let _ = writeln!(
-                text,
-                "    {earlier} earlier invalidations; --all lists them"
-            );
+            writeln!(out, "    {earlier} earlier invalidations; --all lists them")?;
         }
-        for (number, line, why) in &told.spared[earlier..] {
-            let _ = writeln!(text, "    left by event {number}, {why}: {line}");
+        for one in listed {
+            writeln!(out, "    {}", one.words(self.linear_width, record))?;
         }
-        if told.spared.is_empty() {
-            text.push_str("    no invalidation since\n");
+        if listed.is_empty() {
+            writeln!(out, "    no invalidation since")?;
         }
         if let Some((before, event)) = &told.mend {
-            let _ = writeln!(text, "    before event {before} it would go with: {event}");
+            writeln!(out, "    before event {before} it would go with: {event}")?;
         }
+        Ok(())
     }
-    text
-}
 
-fn told_json(width: u64, report: &Report, told: &Told, renters: Option<&Renters>) -> String {
-    let finding = &told.finding;
-    let mut json = Json::object()
-        .with("at", report.at)
-        .with("byte", report.byte)
-        .text("event", &report.event);
-    if let (Some((owner, user)), Some(renters)) = (finding.between, renters) {
+    /// One object. The findings are written one by one, since they may be many.
+    fn json(&self, out: &mut impl Write, stopped: &str) -> io::Result<()> {
+        write!(out, "{{\"findings\":[")?;
+        let mut between = "";
+        for report in &self.reports {
+            for told in &report.told {
+                write!(out, "{between}{}", self.told_json(report, told))?;
+                between = ",";
+            }
+        }
+        let rest = Json::object()
+            .with("entries", self.entries)
+            .with("translations", self.creations)
+            .text("stopped", stopped)
+            .end();
+        writeln!(out, "],{}", &rest[1..])
+    }
+
+    fn told_json(&self, report: &Report, told: &Told) -> String {
+        let finding = &told.finding;
+        let record = &finding.record;
+        let mut json = Json::object()
+            .with("at", report.at)
+            .with("byte", report.byte)
+            .text("event", &report.event);
+        if let Some(((owner, user), renters)) = finding.between.zip(self.renters) {
+            json = json
+                .text("user", renters.name(user))
+                .text("owner", renters.name(owner));
+        }
+        let (earlier, listed) = self.listed(told);
+        let spared = listed.iter().map(|one| {
+            Json::object()
+                .with("number", one.event.number)
+                .text("event", &names::event(self.linear_width, one.event.bytes))
+                .text("reason", &one.why(record))
+                .end()
+        });
         json = json
-            .text("user", renters.name(user))
-            .text("owner", renters.name(owner));
+            .with("created", finding.created)
+            .text("record", &names::event(self.linear_width, record))
+            .with("earlier", earlier)
+            .with("spared", Json::list(spared));
+        if let Some((before, event)) = &told.mend {
+            json = json.with("before", before).text("mend", event);
+        }
+        json.end()
     }
-    let spared = told.spared.iter().map(|(number, line, why)| {
-        Json::object()
-            .with("number", number)
-            .text("event", line)
-            .text("reason", why)
-            .end()
-    });
-    json = json
-        .with("created", finding.created)
-        .text("record", &names::event(width, &finding.record))
-        .with("spared", Json::list(spared));
-    if let Some((before, event)) = &told.mend {
-        json = json.with("before", before).text("mend", event);
-    }
-    json.end()
 }

@@ -35,6 +35,10 @@ impl Event<'_> {
     pub fn kind(&self) -> u8 {
         self.bytes[0]
     }
+
+    pub fn is_entry(&self) -> bool {
+        self.kind() == 20
+    }
 }
 
 impl Log {
@@ -47,7 +51,8 @@ impl Log {
     /// The log in some bytes, binary or as text.
     pub fn of(name: String, bytes: Vec<u8>, linear_width: u64) -> Result<Log, Failure> {
         let bytes = if is_text(linear_width, &bytes) {
-            convert::assemble(&bytes).map_err(|error| Failure::new(format!("{name}: {error}")))?
+            let why = |error| Failure::new(format!("{name}: read as text: {error}"));
+            convert::assemble(&bytes).map_err(why)?
         } else {
             bytes
         };
@@ -72,6 +77,15 @@ impl Log {
                 whole: event_length(self.linear_width, bytes) == bytes.len(),
             }
         })
+    }
+
+    /// Why what was found is not all: the log has no events, or a run ends before its
+    /// end; None where it is all.
+    pub fn amiss(&self, last: Option<Event>) -> Option<String> {
+        match last {
+            None => Some(format!("{}: it has no events", self.name)),
+            last => self.stop(last),
+        }
     }
 
     /// Where and why a run of the log ends before its end; None where it does not.

@@ -21,7 +21,7 @@ pub fn lookup(words: &Words) -> Found {
         let mappings = usable.iter().map(|mapping| object(width, *mapping));
         let json = at
             .json(width)
-            .with(sort, number)
+            .text(sort, &format!("{number:#x}"))
             .with("usable", Json::list(mappings))
             .end();
         print(&format!("{json}\n"))?;

@@ -11,6 +11,7 @@ mod audit;
 mod compare;
 mod explain;
 mod finder;
+mod invalidations;
 mod json;
 mod leaks;
 mod log;

@@ -2,6 +2,7 @@
 //! of logs, and of the documents.
 
 use common::{canonical, field, hex};
+use convert::forms::Form;
 use skuldrefn::{Context, Place, Reason};
 
 /// How many bytes are shown of an event that has no line.
@@ -18,6 +19,11 @@ pub fn event(linear_width: u64, bytes: &[u8]) -> String {
         return format!("raw {shown} .. ({} bytes)", bytes.len());
     }
     format!("raw {shown}")
+}
+
+/// The name of a known kind.
+pub fn kind(linear_width: u64, kind: u8) -> &'static str {
+    Form::of_kind(linear_width, kind).map_or("", |form| form.name)
 }
 
 /// What was answered to an event, in words, with why it has no line where it has
@@ -98,6 +104,11 @@ fn or_off(number: Option<u64>) -> String {
     }
 }
 
+/// Whether records of a kind lead to a frame and not to a paging structure.
+pub fn is_translation(kind: u8) -> bool {
+    matches!(kind, 1..=3 | 7 | 8)
+}
+
 /// The fields of a record that say where it belongs and leads.
 #[derive(Clone, Copy, Debug, PartialEq, Eq)]
 pub struct Fields {
@@ -132,11 +143,6 @@ impl Fields {
         }
     }
 
-    /// Whether it leads to a frame and not to a paging structure.
-    pub fn is_translation(&self) -> bool {
-        matches!(self.kind, 1 | 2 | 3 | 7 | 8)
-    }
-
     pub fn is_guest_physical(&self) -> bool {
         matches!(self.kind, 2 | 5)
     }
@@ -156,5 +162,36 @@ impl Fields {
         let tags = tags.iter().filter_map(|(name, tag)| Some((name, (*tag)?)));
         let tags: Vec<String> = tags.map(|(name, tag)| format!("{name} {tag:#x}")).collect();
         tags.join(", ")
+    }
+}
+
+#[cfg(test)]
+mod tests {
+    use super::Fields;
+    use common::Record;
+
+    #[test]
+    fn fields_of_every_kind() {
+        for kind in 1..=10 {
+            let record = Record {
+                kind,
+                vpid: 5,
+                pcid: 1,
+                global: 0,
+                span: 2,
+                page: 0x40000,
+                frame: 7,
+                ep4ta: 9,
+            };
+            let fields = Fields::of(&record.bytes());
+            let place = (fields.span, fields.page, fields.frame);
+            assert_eq!((fields.kind, place), (kind, (2, 0x40000, 7)));
+            let due = match kind {
+                1 | 4 | 7 | 9 => "VPID 0x5",
+                2 | 5 => "EP4TA 0x9",
+                _ => "VPID 0x5, EP4TA 0x9",
+            };
+            assert_eq!(fields.group(), due, "{kind}");
+        }
     }
 }

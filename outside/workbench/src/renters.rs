@@ -3,10 +3,8 @@
 use crate::log::{input, Log};
 use crate::words::{number, Words};
 use crate::Failure;
-use std::collections::BTreeMap;
+use std::collections::{BTreeMap, BTreeSet};
 use std::ffi::OsStr;
-
-const ENTRY: u8 = 20;
 
 /// The renters of a log.
 pub struct Renters {
@@ -70,12 +68,21 @@ impl Renters {
         Ok(())
     }
 
-    /// Each number is that of a VM entry.
+    /// Each number is that of a VM entry, or lies behind the place where a log ends
+    /// early.
     fn check(&self, log: &Log) -> Result<(), Failure> {
-        let entries = log.events().filter(|event| event.kind() == ENTRY);
-        let entries: Vec<usize> = entries.map(|event| event.number).collect();
+        let mut entries = BTreeSet::new();
+        let mut end = usize::MAX;
+        for event in log.events() {
+            if event.is_entry() {
+                entries.insert(event.number);
+            }
+            if !event.whole {
+                end = event.number;
+            }
+        }
         let mut named = self.entries.keys();
-        let wrong = named.find(|entry| entries.binary_search(entry).is_err());
+        let wrong = named.find(|entry| **entry < end && !entries.contains(entry));
         match wrong {
             None => Ok(()),
             Some(entry) => Err(Failure::new(format!(

@@ -5,19 +5,8 @@ use crate::log::{Event, Log};
 use crate::run::Run;
 use crate::words::Words;
 use crate::{names, print, tell, Failure, Found};
-use skuldrefn::{count, Tally};
+use skuldrefn::{count, Row, Tally};
 use std::fmt::Write;
-
-/// The rows of a tally, by the names that the text form of logs has for their
-/// kinds. Those of 57-bit addresses are counted with their siblings.
-const NAMES: [&str; 6] = [
-    "linear",
-    "guest-physical",
-    "combined",
-    "linear-structure",
-    "guest-physical-structure",
-    "combined-structure",
-];
 
 /// A run up to an event, and where it stands.
 pub struct At<'a> {
@@ -146,14 +135,21 @@ pub fn show(words: &Words) -> Found {
     Ok(at.tell_stop(&log, "show"))
 }
 
-/// A line for each kind that has mappings, with how many there are of each span.
+/// The rows of a tally behind the names of their kinds at 48 bits, 1 to 6; those of
+/// 57-bit addresses are counted with their siblings.
+fn rows(tally: &Tally) -> impl Iterator<Item = (&'static str, &Row)> {
+    let names = (1..=6).map(|kind| names::kind(48, kind));
+    names.zip(&tally.kinds.rows)
+}
+
+/// A line for each kind, with how many there are of each span.
 fn totals(tally: &Tally) -> String {
     let mut text = format!("{:24}", "");
     for span in 0..5 {
         let _ = write!(text, "  span {span}");
     }
     text.push('\n');
-    for (name, row) in NAMES.iter().zip(&tally.kinds.rows) {
+    for (name, row) in rows(tally) {
         let _ = write!(text, "{name:24}");
         for count in row.spans {
             let _ = write!(text, "{count:8}");
@@ -164,8 +160,7 @@ fn totals(tally: &Tally) -> String {
 }
 
 fn totals_json(tally: &Tally) -> String {
-    let rows = NAMES.iter().zip(&tally.kinds.rows);
-    let object = rows.fold(Json::object(), |object, (name, row)| {
+    let object = rows(tally).fold(Json::object(), |object, (name, row)| {
         let spans = row.spans.iter().map(ToString::to_string);
         object.with(name, Json::list(spans))
     });

@@ -1,6 +1,7 @@
 //! `view LOG`: a picture of a run.
 
-use crate::finder::watch;
+use crate::finder::{watch, Finding};
+use crate::invalidations::{Invalidations, LISTED};
 use crate::log::Log;
 use crate::names::{self, Fields};
 use crate::renters::Renters;
@@ -36,7 +37,7 @@ pub struct Bar {
     pub created: usize,
     /// The event that dropped it, and the name of its kind; None where it is in
     /// force at the end.
-    pub ended: Option<(usize, String)>,
+    pub ended: Option<(usize, &'static str)>,
     pub record: String,
     /// All that is said of it.
     pub words: String,
@@ -78,8 +79,9 @@ pub fn view(words: &Words) -> Found {
                     ),
                     None => "a newer translation leads to another frame".to_string(),
                 };
-                drawing.found(finding.created, finding.at, &said);
+                drawing.found(finding, &said);
             }
+            drawing.invalidations.add(event, taken);
         },
     )?;
     let picture = drawing.end();
@@ -96,9 +98,10 @@ pub fn view(words: &Words) -> Found {
 }
 
 /// A picture that is being drawn.
-struct Drawing {
+struct Drawing<'a> {
     linear_width: u64,
     picture: Picture,
+    invalidations: Invalidations<'a>,
     /// The place in `bars` of each mapping, by the event that created it.
     places: BTreeMap<usize, usize>,
     /// The bars of each group.
@@ -106,8 +109,8 @@ struct Drawing {
     names: BTreeMap<(Option<u64>, Option<u64>), String>,
 }
 
-impl Drawing {
-    fn new(log: &Log) -> Drawing {
+impl Drawing<'_> {
+    fn new(log: &Log) -> Self {
         Drawing {
             linear_width: log.linear_width,
             picture: Picture {
@@ -120,6 +123,7 @@ impl Drawing {
                 groups: Vec::new(),
                 findings: 0,
             },
+            invalidations: Invalidations::default(),
             places: BTreeMap::new(),
             groups: BTreeMap::new(),
             names: BTreeMap::new(),
@@ -142,8 +146,7 @@ impl Drawing {
         }
         for created in &taken.dropped {
             let bar = &mut picture.bars[self.places[created]];
-            let kind = line.split(' ').next().unwrap_or_default();
-            bar.ended = Some((number, kind.to_string()));
+            bar.ended = Some((number, names::kind(self.linear_width, bytes[0])));
             bar.words += &format!("\ndropped by event {number}, in scope: {line}");
         }
         if common::is_mapping_kind(bytes[0]) {
@@ -169,11 +172,22 @@ impl Drawing {
         self.picture.renters.push((number, name.to_string()));
     }
 
-    /// A mapping that can be used from an event on.
-    fn found(&mut self, created: usize, at: usize, said: &str) {
-        let bar = &mut self.picture.bars[self.places[&created]];
-        bar.found.push(at);
-        bar.words += &format!("\nfound at event {at}: {said}");
+    /// A mapping that can be used from an event on, and the last invalidations that
+    /// left it before.
+    fn found(&mut self, finding: &Finding, said: &str) {
+        let bar = &mut self.picture.bars[self.places[&finding.created]];
+        let told = bar.found.last().copied().unwrap_or(bar.created);
+        let since = self.invalidations.since(told);
+        let (earlier, listed) = self.invalidations.last(since, LISTED);
+        if earlier > 0 {
+            bar.words += &format!("\nleft by {earlier} earlier invalidations");
+        }
+        for one in listed {
+            bar.words += "\n";
+            bar.words += &one.words(self.linear_width, &finding.record);
+        }
+        bar.found.push(finding.at);
+        bar.words += &format!("\nfound at event {}: {said}", finding.at);
         self.picture.findings += 1;
     }
 

@@ -59,8 +59,8 @@ fn logs_that_are_amiss() {
     for due in [
         format!("      -       0       0       0   65537  {long}; too long: 65537 bytes, and replay takes 65,536\n"),
         format!("      -       0       0       0   65536  {}\n", folder.name("full.log")),
-        format!("      -       0       0       0       0  {}\n", folder.name("empty.log")),
-        format!("{0}; {0}: line 2: unknown event 'vmxof'\n", folder.name("text.log")),
+        format!("      -       0       0       0       0  {}; it has no events\n", folder.name("empty.log")),
+        format!("{0}; {0}: read as text: line 2: unknown event 'vmxof'\n", folder.name("text.log")),
         format!(
             "{}; {}: event 2 is a VM entry, and has no line\n",
             folder.name("unnamed.log"),
@@ -72,7 +72,7 @@ fn logs_that_are_amiss() {
             folder.name("wrong.renters")
         ),
         format!("{none}; {none} cannot be read: No such file or directory (os error 2)\n"),
-        "7 logs, 5 with findings\n".to_string(),
+        "7 logs, 6 with findings\n".to_string(),
     ] {
         assert!(audited.out.contains(&due), "{}\n{due}", audited.out);
     }
@@ -83,16 +83,13 @@ fn logs_that_are_amiss() {
         "{}",
         any.out
     );
-    let nothing = Folder::new();
-    let empty = run(&["audit", &nothing.name("")]);
-    let due = format!(
-        "audit: {} has no file that ends in .log\n",
-        nothing.name("")
-    );
-    assert_eq!(
-        (empty.status, empty.out, empty.said),
-        (2, String::new(), due)
-    );
+    // A folder without logs stops no others either.
+    let nothing = folder.name("folder.log");
+    let empty = run(&["audit", &nothing, "examples/five-events.log"]);
+    let due = format!("  {nothing}; a folder that has no file that ends in .log\n");
+    assert!(empty.out.contains(&due), "{}", empty.out);
+    assert!(empty.out.ends_with("2 logs, 1 with findings\n"));
+    assert_eq!(empty.status, 1);
 }
 
 /// Ten thousand were tried by hand; these are enough to keep all cores busy.

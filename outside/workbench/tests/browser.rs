@@ -88,6 +88,11 @@ fn bars() {
 fn a_click_on_a_bar() {
     let due = "created by event 30: combined vpid=0x5 pcid=0x1 global=0x1 span=0x1 \
                page=0xffff81000 frame=0x5200 ep4ta=0x100\n\
+               left by event 31, wrong PCID: mov-to-cr3 pcid=0x2\n\
+               left by event 34, spared as global: invvpid type=0x3 vpid=0x5 address=0x0\n\
+               left by event 41, wrong VPID: invlpg address=0x400000\n\
+               left by event 43, wrong VPID: invvpid type=0x1 vpid=0x6 address=0x0\n\
+               left by event 44, wrong EP4TA: invept type=0x1 eptp=0x20001e\n\
                found at event 45: carl can use this mapping of anna\n\
                in force at the end";
     if let Some(document) = browsed(&story(), &format!("{HAND}atBar(16, 'click');")) {
@@ -146,6 +151,20 @@ fn a_large_log() {
     if let Some(document) = browsed(&page, &script) {
         let due = "created by event 4: linear vpid=0x0 pcid=0x0 global=0x0 span=0x0 page=0x3 \
                    frame=0x3\nin force at the end, quick";
+        assert_eq!(words(&document), due);
+    }
+    // The strip of events stays in sight, in front of the bars.
+    let script = format!(
+        "{HAND}
+        const main = document.querySelector('main');
+        main.scrollTop = 5000;
+        main.dispatchEvent(new Event('scroll'));
+        const box = main.getBoundingClientRect();
+        at(box.left + 1000.5 * data.step, box.top + 20, 'mousemove');"
+    );
+    if let Some(document) = browsed(&page, &script) {
+        let due = "event 1000: linear vpid=0x0 pcid=0x0 global=0x0 span=0x0 page=0x3e7 \
+                   frame=0x3e7\naccepted";
         assert_eq!(words(&document), due);
     }
 }

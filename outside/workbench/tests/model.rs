@@ -302,7 +302,7 @@ fn stale_translations() {
     let mut all = 0;
     for modelled in logs(120) {
         let width = LinearWidth::of(modelled.linear_width());
-        let mut due = Vec::new();
+        let (mut due, mut before) = (Vec::new(), BTreeSet::new());
         for (number, taken) in (1..).zip(&modelled.events) {
             let Some(new) = Mapping::decode(width, &taken.event) else {
                 continue;
@@ -322,7 +322,7 @@ fn stale_translations() {
                         && is_usable(&taken.after, &taken.event, address)
                         && frame(&old) != frame(&new)
                 });
-                if old.is_translation() && stale {
+                if old.is_translation() && stale && before.insert(*created) {
                     due.push((number, *created));
                 }
             }

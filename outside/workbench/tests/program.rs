@@ -201,7 +201,7 @@ fn what_cannot_be_read() {
     let text = folder.write("bad.txt", b"vmxon\nentry vpid=5\n");
     let run = run(&["leaks", &text]);
     let due = format!(
-        "leaks: {text}: line 2: entry: 'vpid=5': a value is hexadecimal with 0x, as 0x1f\n"
+        "leaks: {text}: read as text: line 2: entry: 'vpid=5': a value is hexadecimal with 0x, as 0x1f\n"
     );
     assert_eq!((run.status, run.out, run.said), (2, String::new(), due));
 }
@@ -299,6 +299,32 @@ fn a_cut_log() {
     assert!(run.out.starts_with(due), "{}", run.out);
 }
 
+/// What is found before the cut is told, and who would come in behind it does not
+/// matter. Event 38 of the story is cut, and event 49.
+#[test]
+fn a_cut_log_with_renters() {
+    let folder = Folder::new();
+    let story = std::fs::read(tool::top().join("examples/three-renters.log")).expect("a log");
+    for (length, leaks, why) in [
+        (
+            606,
+            "leaks: 0, in 5 VM entries\n",
+            "event 38, byte 595: combined cut to 11 of 22 bytes",
+        ),
+        (
+            760,
+            "leaks: 3, in 7 VM entries\n",
+            "event 49, byte 757: combined cut to 3 of 22 bytes",
+        ),
+    ] {
+        let log = folder.write("cut", &story[..length]);
+        let run = run(&["leaks", &log, "renters=examples/three-renters.renters"]);
+        assert!(run.out.ends_with(leaks), "{}", run.out);
+        let due = format!("leaks: {log}: the run ends at {why}\n");
+        assert_eq!((run.status, run.said), (1, due));
+    }
+}
+
 /// The rest of a log behind an unknown kind is not shown whole.
 #[test]
 fn an_unknown_kind_far_from_the_end() {
@@ -361,6 +387,43 @@ fn settings() {
     }
 }
 
+/// The five rules of an EPTP (document 02, Ask 6), in words. The second capability is
+/// the program's without bit 21.
+#[test]
+fn rules_of_an_eptp() {
+    for (capability, width, eptp, due) in [
+        ("0xf0106304140", "52", "0x123456701c", "memory type"),
+        ("0xf0106304140", "52", "0x1234567006", "walk length"),
+        ("0xf0106104140", "52", "0x123456705e", "accessed and dirty"),
+        ("0xf0106304140", "52", "0x123456709e", "bits 11:7"),
+        (
+            "0xf0106304140",
+            "36",
+            "0x123456701e",
+            "bits above the width",
+        ),
+    ] {
+        let text = format!("vmxon\ninvept type=0x1 eptp={eptp}\n");
+        let words = ["explain", "--capability", capability, "--width", width];
+        let run = fed(&[&words[..], &["-", "event=2"]].concat(), text.as_bytes());
+        let due = format!(
+            "\nanswer: refused with 8: VMfail, invalid operand, bad EPTP: {due}\nbefore: root "
+        );
+        assert!(run.out.contains(&due), "{}", run.out);
+    }
+}
+
+/// 47,104 bytes have room for 2,770 records of 17 bytes.
+#[test]
+fn no_room() {
+    let mapping = "linear vpid=0x0 pcid=0x0 global=0x0 span=0x0 page=0x1 frame=0x2";
+    let text = format!("{mapping}\n").repeat(2_771);
+    let run = fed(&["replay", "--words", "-"], text.as_bytes());
+    let due = format!("2771 12 0 47090 {mapping}  # refused with 12: no room in the table\n");
+    assert!(run.out.ends_with(&due));
+    assert_eq!(run.status, 0);
+}
+
 /// Only the last ten invalidations are listed, if not all are asked for.
 #[test]
 fn many_invalidations() {
@@ -375,15 +438,78 @@ fn many_invalidations() {
     assert_eq!(short.out.matches("\n    left by event ").count(), 10);
     let all = fed(&["leaks", "--all", "-"], text.as_bytes());
     assert_eq!(all.out.matches("\n    left by event ").count(), 12);
-    let json = fed(&["leaks", "--json", "-"], text.as_bytes());
-    let due = "\"reason\":\"does not cover the address\"";
-    assert_eq!(json.out.matches(due).count(), 12);
+    for (words, earlier, count) in [
+        (&["leaks", "--json", "-"][..], "\"earlier\":2,", 10),
+        (&["leaks", "--json", "--all", "-"], "\"earlier\":0,", 12),
+    ] {
+        let json = fed(words, text.as_bytes());
+        let due = "\"reason\":\"does not cover the address\"";
+        assert_eq!(json.out.matches(due).count(), count);
+        assert!(json.out.contains(earlier), "{}", json.out);
+    }
     let none = fed(&["leaks", "-"], (mapping(1) + &mapping(2)).as_bytes());
     assert!(
         none.out.contains("\n    no invalidation since\nstale"),
         "{}",
         none.out
     );
+}
+
+/// A log of 65,536 bytes stays quick, whatever it has: 1,900 mappings that 10,000
+/// invalidations leave, and 2,770 translations of one page.
+#[test]
+fn many_findings() {
+    let folder = Folder::new();
+    let renters = folder.write("renters", b"2 anna\n11904 bert\n");
+    let entry = "entry vpid=0x5 ept=off pcid=0x1 cpl=0x0\n";
+    let mut text = format!("vmxon\n{entry}");
+    for page in 0..1_900 {
+        text += &format!("linear vpid=0x5 pcid=0x1 global=0x0 span=0x0 page={page:#x} frame=0x2\n");
+    }
+    text += &"mov-to-cr3 pcid=0x2\n".repeat(10_000);
+    text += &format!("exit pcid=0x0\n{entry}");
+    assert!(assembled(&text).len() <= 65_536);
+    let words = ["leaks", "-", &format!("renters={renters}")];
+    let run = fed(&words, text.as_bytes());
+    let earlier = "\n    9990 earlier invalidations; --all lists them\n";
+    assert_eq!(run.out.matches(earlier).count(), 1_900);
+    assert!(run.out.ends_with("leaks: 1900, in 2 VM entries\n"));
+    assert!(run.out.len() < 2_000_000, "{}", run.out.len());
+    let mut text = String::new();
+    for frame in 0..2_770 {
+        text +=
+            &format!("linear vpid=0x0 pcid=0x0 global=0x0 span=0x0 page=0x1 frame={frame:#x}\n");
+    }
+    for (command, most) in [("leaks", 1_000_000), ("view", 2_000_000)] {
+        let run = fed(&[command, "-"], text.as_bytes());
+        assert!(run.out.len() < most, "{command}: {}", run.out.len());
+    }
+}
+
+/// An older translation is told once, and counted where it still stands.
+#[test]
+fn a_stale_translation_that_stays() {
+    let mapping = |frame: u32| {
+        format!("linear vpid=0x0 pcid=0x0 global=0x0 span=0x0 page=0x1 frame={frame:#x}\n")
+    };
+    let text = mapping(1) + &mapping(2) + &mapping(3);
+    let run = fed(&["leaks", "-"], text.as_bytes());
+    let older = |number: u32| {
+        let line = mapping(number);
+        format!(
+            "  beside an older translation, created by event {number}: {line}    \
+             no invalidation since\n"
+        )
+    };
+    let due = [
+        format!("event 2, at byte 17: {}", mapping(2)),
+        older(1),
+        format!("event 3, at byte 34: {}", mapping(3)),
+        "  still usable, told before: 1\n".to_string(),
+        older(2),
+        "stale translations: 2, in 3 translations created\n".to_string(),
+    ];
+    assert_eq!((run.status, run.out), (1, due.concat()));
 }
 
 /// An invalidation that was refused is a reason too.
@@ -409,6 +535,36 @@ fn a_refused_invalidation() {
         before event 6 it would go with: invvpid type=0x1 vpid=0x5 address=0x0\n\
         leaks: 1, in 2 VM entries\n";
     assert_eq!((run.status, &run.out[..]), (1, due));
+}
+
+/// Of every kind; where a step is refused, the answer is the reason.
+#[test]
+fn each_refused_invalidation() {
+    let folder = Folder::new();
+    let renters = folder.write("renters", b"2 anna\n12 bert\n");
+    let text = "vmxon\n\
+        entry vpid=0x5 ept=off pcid=0x1 cpl=0x0\n\
+        linear vpid=0x5 pcid=0x1 global=0x0 span=0x0 page=0x1 frame=0x2\n\
+        switch pcid=0x1 cpl=0x3\n\
+        invlpg address=0x1000\n\
+        ept-violation gpa=0x1000 linear=off\n\
+        invpcid type=0x2 pcid=0x0 address=0x0\n\
+        mov-to-cr3 pcid=0x1\n\
+        invvpid type=0x1 vpid=0x5 address=0x0\n\
+        invept type=0x2 eptp=0x0\n\
+        exit pcid=0x0\n\
+        entry vpid=0x5 ept=off pcid=0x1 cpl=0x0\n";
+    let words = ["leaks", "-", &format!("renters={renters}")];
+    let run = fed(&words, text.as_bytes());
+    let due = "frame=0x2\n    \
+        left by event 5, refused with 7: #GP(0): invlpg address=0x1000\n    \
+        left by event 6, refused with 9: the event has no place here: ept-violation gpa=0x1000 linear=off\n    \
+        left by event 7, refused with 7: #GP(0): invpcid type=0x2 pcid=0x0 address=0x0\n    \
+        left by event 8, refused with 7: #GP(0): mov-to-cr3 pcid=0x1\n    \
+        left by event 9, refused with 6: the event causes a VM exit: invvpid type=0x1 vpid=0x5 address=0x0\n    \
+        left by event 10, refused with 6: the event causes a VM exit: invept type=0x2 eptp=0x0\n    \
+        before event 12 it would go with: ";
+    assert!(run.out.contains(due), "{}", run.out);
 }
 
 /// A mapping is told in full once for each renter who can use it.

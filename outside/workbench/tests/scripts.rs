@@ -89,7 +89,8 @@ fn an_empty_log() {
     assert_eq!((replay.status, &replay.out[..]), (0, ""));
     let leaks = fed(&["leaks", "-"], b"");
     let due = "stale translations: 0, in 0 translations created\n";
-    assert_eq!((leaks.status, &leaks.out[..]), (0, due));
+    assert_eq!((leaks.status, &leaks.out[..]), (1, due));
+    assert_eq!(leaks.said, "leaks: standard input: it has no events\n");
     let trace = fed(&["view", "--trace", "-"], b"");
     assert_eq!(behind_json(&trace.out), Some("\n"));
     let page = fed(&["view", "-"], b"");

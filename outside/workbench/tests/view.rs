@@ -66,11 +66,14 @@ fn the_story() {
         ">EP4TA 0x200</text>",
         ">VPID 0x5, EP4TA 0x100</text>",
         ">VPID 0x6, EP4TA 0x200</text>",
-        "created by event 30: combined vpid=0x5 pcid=0x1 global=0x1 span=0x1 page=0xffff81000 frame=0x5200 ep4ta=0x100\\u000afound at event 45: carl can use this mapping of anna\\u000ain force at the end\"",
+        "created by event 30: combined vpid=0x5 pcid=0x1 global=0x1 span=0x1 page=0xffff81000 frame=0x5200 ep4ta=0x100\\u000aleft by event 31, wrong PCID: mov-to-cr3 pcid=0x2\\u000aleft by event 34, spared as global: invvpid type=0x3 vpid=0x5 address=0x0\\u000aleft by event 41, ",
+        "address=0x0\\u000aleft by event 44, wrong EP4TA: invept type=0x1 eptp=0x20001e\\u000afound at event 45: carl can use this mapping of anna\\u000ain force at the end\"",
         "created by event 29: combined vpid=0x5 pcid=0x1 global=0x0 span=0x0 page=0x400 frame=0x5110 ep4ta=0x100\\u000adropped by event 34, in scope: invvpid type=0x3 vpid=0x5 address=0x0\"",
     ] {
         assert!(page.out.contains(due), "{due}");
     }
+    // No other groups.
+    assert_eq!(page.out.matches("<text x=\"4\" ").count(), 5);
     // One file that needs no network.
     assert!(!page.out.contains("http"));
     let mended = run(&[
@@ -82,7 +85,7 @@ fn the_story() {
     assert_eq!(bars(&mended.out).len(), 23);
 }
 
-/// A bar goes from its creation to its end, and no two bars meet in a lane.
+/// A bar goes from its creation to its end, and no two bars meet.
 #[test]
 fn bars_have_their_place() {
     let page = run(&["view", LOG]).out;
@@ -111,12 +114,181 @@ fn bars_have_their_place() {
             "{bar}"
         );
         for other in bars(&page) {
-            let apart = number(other, "y") != number(bar, "y")
+            let apart = (number(other, "y") - number(bar, "y")).abs() >= number(bar, "height")
                 || number(other, "x") + 0.02 > number(bar, "x") + number(bar, "width")
                 || number(other, "x") + number(other, "width") < number(bar, "x") + 0.02;
             assert!(other == bar || apart, "{bar}\n{other}");
         }
     }
+}
+
+/// What left a mapping is told for each who can use it, from the one before on.
+#[test]
+fn a_mapping_that_two_can_use() {
+    let folder = Folder::new();
+    let renters = folder.write("renters", b"2 anna\n17 bert\n20 carl\n");
+    let entry = "entry vpid=0x5 ept=off pcid=0x1 cpl=0x0\n";
+    let mapping = "linear vpid=0x5 pcid=0x1 global=0x0 span=0x0 page=0x1 frame=0x2";
+    let text = format!("vmxon\n{entry}{mapping}\n")
+        + &"invlpg address=0x5000\n".repeat(12)
+        + &format!("exit pcid=0x0\n{entry}invlpg address=0x6000\nexit pcid=0x0\n{entry}");
+    let words = ["view", "-", &format!("renters={renters}")];
+    let page = fed(&words, text.as_bytes()).out;
+    let mut due = format!("\"created by event 3: {mapping}\\u000aleft by 2 earlier invalidations");
+    for number in 6..16 {
+        due += &format!(
+            "\\u000aleft by event {number}, does not cover the address: invlpg address=0x5000"
+        );
+    }
+    due += "\\u000afound at event 17: bert can use this mapping of anna\
+            \\u000aleft by event 18, does not cover the address: invlpg address=0x6000\
+            \\u000afound at event 20: carl can use this mapping of anna\
+            \\u000ain force at the end\"";
+    assert!(page.contains(&due), "{due}");
+    // Without VPIDs a VM entry invalidates too, one at which a mapping is found among it.
+    let renters = folder.write("renters", b"2 anna\n5 bert\n7 carl\n");
+    let entry = "entry vpid=off ept=0x10001e pcid=0x1 cpl=0x0";
+    let mapping = "guest-physical ep4ta=0x100 span=0x0 page=0x1 frame=0x2";
+    let text = format!("vmxon\n{entry}\n{mapping}\nexit pcid=0x0\n{entry}\nexit pcid=0x0\n{entry}");
+    let words = ["view", "-", &format!("renters={renters}")];
+    let page = fed(&words, text.as_bytes()).out;
+    let due = format!(
+        "\"created by event 3: {mapping}\
+         \\u000aleft by event 4, wrong kind: exit pcid=0x0\
+         \\u000afound at event 5: bert can use this mapping of anna\
+         \\u000aleft by event 5, wrong kind: {entry}\
+         \\u000aleft by event 6, wrong kind: exit pcid=0x0\
+         \\u000afound at event 7: carl can use this mapping of anna\
+         \\u000ain force at the end\""
+    );
+    assert!(page.contains(&due), "{due}");
+}
+
+/// Every kind that drops mappings has a colour and a key, one too whose line is raw:
+/// a VM entry without VPIDs whose VPID field is not zero.
+#[test]
+fn colours() {
+    let mapping = "linear vpid=0x0 pcid=0x0 global=0x0 span=0x0 page=0x1 frame=0x2\n";
+    let within = mapping.replace("vpid=0x0 pcid=0x0", "vpid=0x5 pcid=0x1");
+    let combined = within
+        .replace("linear", "combined")
+        .replace("\n", " ep4ta=0x100\n");
+    let entry = "entry vpid=0x5 ept=off pcid=0x1 cpl=0x0\n";
+    let ept = "entry vpid=0x5 ept=0x10001e pcid=0x1 cpl=0x0\n";
+    let exit = "exit pcid=0x0\n";
+    for (kind, text) in [
+        ("invlpg", format!("{mapping}invlpg address=0x1000\n")),
+        (
+            "invpcid",
+            format!("{mapping}invpcid type=0x2 pcid=0x0 address=0x0\n"),
+        ),
+        ("mov-to-cr3", format!("{mapping}mov-to-cr3 pcid=0x0\n")),
+        ("reset", format!("{mapping}reset\n")),
+        (
+            "entry",
+            format!("vmxon\n{mapping}raw 14 00 05 00 00 00 00 00 00 00 00 00 00 01 00 00\n"),
+        ),
+        (
+            "exit",
+            format!("vmxon\nentry vpid=off ept=off pcid=0x0 cpl=0x0\n{mapping}{exit}"),
+        ),
+        (
+            "invvpid",
+            format!("vmxon\n{entry}{within}{exit}invvpid type=0x2 vpid=0x0 address=0x0\n"),
+        ),
+        (
+            "invept",
+            format!("vmxon\n{ept}{combined}{exit}invept type=0x2 eptp=0x0\n"),
+        ),
+        (
+            "ept-violation",
+            format!("vmxon\n{ept}{combined}ept-violation gpa=0x0 linear=0x1000\n"),
+        ),
+    ] {
+        let page = fed(&["view", "-"], text.as_bytes()).out;
+        assert_eq!(bars(&page).len(), 1, "{kind}");
+        let class = attribute(bars(&page)[0], "class");
+        assert_eq!(class, format!("bar {kind}"));
+        let key =
+            format!("<span class=\"key\"><i class=\"{kind}\"></i>ended by {kind}: 1</span>\n");
+        assert!(page.contains(&key), "{key}");
+        let colour = |line: &str| {
+            let (names, rest) = line.split_once(" { fill: #").unwrap_or(("", ""));
+            let own = names.split(", ").any(|name| name == format!(".{kind}"));
+            own && rest.contains("; background: #")
+        };
+        assert!(page.lines().any(colour), "{kind}");
+    }
+}
+
+/// An event is 18 wide where there are few. Where the story's guests are entered and
+/// left, where Carl gets at Anna's mappings, and the refused events of another log.
+#[test]
+fn places_and_marks() {
+    const STEP: f64 = 18.0;
+    let page = run(&["view", LOG, RENTERS]).out;
+    let all = |start: &str| -> Vec<&str> {
+        let lines = page.lines();
+        lines.filter(|line| line.starts_with(start)).collect()
+    };
+    for (class, due) in [
+        (
+            "guest",
+            &[
+                (3, 13),
+                (14, 17),
+                (18, 25),
+                (27, 33),
+                (35, 39),
+                (40, 42),
+                (45, 50),
+            ][..],
+        ),
+        (
+            "root",
+            &[
+                (1, 3),
+                (13, 14),
+                (17, 18),
+                (25, 27),
+                (33, 35),
+                (39, 40),
+                (42, 45),
+                (50, 51),
+            ],
+        ),
+    ] {
+        let places = all(&format!("<rect class=\"{class}\" "));
+        let places = places.iter().map(|place| {
+            let from = number(place, "x") / STEP;
+            (from, from + number(place, "width") / STEP)
+        });
+        let places: Vec<(f64, f64)> = places.collect();
+        let due = due
+            .iter()
+            .map(|(from, to)| (f64::from(*from), f64::from(*to)));
+        assert_eq!(places, due.collect::<Vec<_>>(), "{class}");
+    }
+    // In the order of the bars: those of events 30, 36 and 38.
+    let marks = all("<circle class=\"mark\" ");
+    let marks = marks.iter().map(|mark| number(mark, "cx") / STEP);
+    assert_eq!(marks.collect::<Vec<_>>(), [45.0, 48.0, 45.0]);
+    let page = run(&["view", "examples/refusals.log"]).out;
+    let expected = std::fs::read_to_string(tool::top().join("examples/refusals.expected"));
+    let mut due = String::new();
+    for line in expected.expect("a file").lines() {
+        let numbers: Vec<f64> = line
+            .split(' ')
+            .map(|n| n.parse().expect("a number"))
+            .collect();
+        if numbers[1] != 0.0 {
+            due += &format!("M{:.2} 17v12", (numbers[0] + 0.5) * STEP);
+        }
+    }
+    assert!(
+        page.contains(&format!("<path id=\"refused\" d=\"{due}\" ")),
+        "{due}"
+    );
 }
 
 #[test]
@@ -190,13 +362,11 @@ fn the_trace() {
         ("29000".to_string(), "5000".to_string())
     );
     assert!(one.contains("\"ended by\":\"invvpid\""), "{one}");
-    assert_eq!(
-        trace
-            .out
-            .matches("{\"name\":\"found\",\"ph\":\"i\"")
-            .count(),
-        3
-    );
+    // Those of events 30, 36 and 38.
+    let found = trace.out.lines();
+    let found = found.filter(|line| line.starts_with("{\"name\":\"found\",\"ph\":\"i\""));
+    let found: Vec<String> = found.map(|line| field(line, "ts")).collect();
+    assert_eq!(found, ["45000", "48000", "45000"]);
     assert_eq!(
         trace
             .out

@@ -9,8 +9,8 @@ use std::fmt::Write;
 /// The page around the drawing; the names in braces are filled in.
 const PAGE: &str = include_str!("../../page/page.html");
 
-/// The widest that an event is drawn, and the least.
-const EVENT: (f64, f64) = (18.0, 0.25);
+/// The widest that an event is drawn, and the least: a pixel can be pointed at.
+const EVENT: (f64, f64) = (18.0, 1.0);
 /// How wide the drawing is, if the events may be as wide as that takes.
 const WIDTH: f64 = 1400.0;
 /// The strip of the events, above the bars.
@@ -71,8 +71,8 @@ pub fn page(picture: &Picture) -> String {
         "<svg id=\"run\" width=\"{width}\" height=\"{height}\" viewBox=\"0 0 {width} {height}\">\n"
     );
     drawing += &places(picture, &scale);
-    drawing += &strip(picture, &scale);
     drawing += &groups(picture, &scale);
+    drawing += &strip(picture, &scale);
     drawing += "</svg>\n";
     let mut page = PAGE.replace("{name}", &escaped(&picture.name));
     for (name, text) in [
@@ -153,7 +153,9 @@ fn places(picture: &Picture, scale: &Scale) -> String {
 
 /// The numbers of events, and marks for those that were refused.
 fn strip(picture: &Picture, scale: &Scale) -> String {
-    let mut text = String::new();
+    let width = scale.width();
+    let mut text =
+        format!("<g id=\"head\">\n<rect id=\"back\" width=\"{width:.2}\" height=\"{STRIP}\"/>\n");
     // A number at every so many events that there is room for it.
     let mut steps = (0..).flat_map(|zeros| [1, 2, 5].map(|step| step * 10_usize.pow(zeros)));
     let every = steps.find(|step| scale.at(*step) >= NUMBER).unwrap_or(1);
@@ -182,16 +184,15 @@ fn strip(picture: &Picture, scale: &Scale) -> String {
         for number in &picture.refused {
             let _ = write!(path, "M{:.2} 17v12", scale.at(*number) + scale.event / 2.0);
         }
-        let width = scale.event.clamp(1.0, 4.0);
+        let stroke = scale.event.clamp(1.0, 4.0);
         let _ = writeln!(
             text,
-            "<path id=\"refused\" d=\"{path}\" stroke-width=\"{width:.2}\"/>"
+            "<path id=\"refused\" d=\"{path}\" stroke-width=\"{stroke:.2}\"/>"
         );
     }
     let _ = writeln!(
         text,
-        "<rect id=\"strip\" width=\"{:.2}\" height=\"{STRIP}\"/>",
-        scale.width()
+        "<rect id=\"strip\" width=\"{width:.2}\" height=\"{STRIP}\"/>\n</g>"
     );
     text
 }
