@@ -18,7 +18,8 @@
  * counts.
  *
  * Every other input is answered: any number in any field or count, any bytes in
- * a table, a record, an event, a log, rows or an image, and any length of a buffer.
+ * a table, a record, an event, a log, a fragment, rows or an image, and any length of a
+ * buffer.
  *
  * What the model does, rule by rule, is in docs/MODEL.md. A record or an event
  * is one byte of kind, then a body whose fields and length the kind fixes;
@@ -122,9 +123,10 @@ enum {
 
 /*
  * The answers. The lowest number that applies is given, and only then; but 13 goes
- * after 4 and before 5. skuldrefn_step gives 0 to 13, skuldrefn_plain_step 0 to 12,
- * skuldrefn_count 0, 2, 3 or 13, a lookup 0 to 3, skuldrefn_widen 0, 2, 3 or 12,
- * skuldrefn_export 0, 1, 2, 3 or 12, skuldrefn_import 0, 1, 4 or 12. A refusal that
+ * after 4 and before 5. skuldrefn_step, skuldrefn_step_levels and skuldrefn_take give 0
+ * to 13, skuldrefn_plain_step 0 to 12, skuldrefn_finish 1 to 4 (0 where it reports
+ * nothing), skuldrefn_count 0, 2, 3 or 13, a lookup 0 to 3, skuldrefn_widen 0, 2, 3 or
+ * 12, skuldrefn_export 0, 1, 2, 3 or 12, skuldrefn_import 0, 1, 4 or 12. A refusal that
  * skuldrefn_explain names is 1 or 3 to 11, one that skuldrefn_judge names 1 to 12.
  */
 enum {
@@ -406,7 +408,10 @@ typedef struct {
 
 /*
  * One event on a context and two tables, each as with skuldrefn_step. A creation goes
- * into both, and room is judged for each against its own buffer.
+ * into both, and room is judged for each against its own buffer. A small first table
+ * soon has no room (12): take records out of it, as a processor may at any time, count
+ * it afresh with skuldrefn_count_tally, and step again; the second table still has
+ * them.
  *
  * With answer 0 each new table is in its buffer, its tally in its kinds and pcids, and
  * the context is the one after the event. If either table's step would be refused,
@@ -544,7 +549,7 @@ skuldrefn_replayed skuldrefn_replay(
  *
  * A reader ignores: after an unknown kind, an answer 2 or 3 or a finish call, until
  * it is reset. So does one that holds more than 24 bytes, or bytes that begin no
- * event known at the context's linear width or complete one; no call leaves such a
+ * event known at the context's linear width or complete one; no call makes such a
  * one. Any other numbers and bytes are fine, and those of held past its length are
  * not looked at.
  */
@@ -571,13 +576,13 @@ typedef struct {
  * A fragment of a log, of any length, none included, cut anywhere. The call stops
  * after the first event that it finishes, which is one step with the tally: answers,
  * buffers and tally are as with skuldrefn_step, for the bytes held and those taken.
- * The bytes that were not taken are to be handed in again. So the log's events are
+ * The bytes that were not taken are to be handed in again. So the log's lines are
  * those of skuldrefn_replay, however it is cut and however long it is.
  *
  * Kinds are known by the context's linear width, any but 57 read as 48. An unknown
  * kind is finished after its one byte, and answered 4, or 1 to 3 where they apply.
- * A bad field is answered 4, and the log goes on behind it; so it does after any
- * answer but 2 and 3.
+ * A bad field is answered 4 too, and the log goes on behind it; so it does after any
+ * answer but 2 and 3. Only after an unknown kind is reader.ignoring not 0.
  *
  * If no event is finished, all of the fragment is taken: its bytes are held behind
  * those that were, and nothing else changes. A reader that ignores takes all of it

@@ -23,19 +23,20 @@ table-left width rows buffer = take (importing width rows (length buffer) .lengt
 pub record Exports (width : ℕ) (t buffer : List ℕ) : Type 0 where
   -- a row of 32 bytes for each record
   pub count : length (rows-left width t buffer) ≡ 32 * length (records t)
-  -- the rows are imported, with room for the table, and make the table that was exported
+  -- the rows are imported, with room for the table; and where they are, at whatever width, they make the table that was
+  -- exported
   pub accepted : (new : List ℕ) → length t ≤ length new → importing width (rows-left width t buffer) (length new) .answer ≡ 0
-  pub same : (new : List ℕ) → importing width (rows-left width t buffer) (length new) .answer ≡ 0
-      → table-left width (rows-left width t buffer) new ≡ t
+  pub same : (other : ℕ) (new : List ℕ) → importing other (rows-left width t buffer) (length new) .answer ≡ 0
+      → table-left other (rows-left width t buffer) new ≡ t
 
 -- of rows of bytes that are imported into a buffer
 pub record Imports (width : ℕ) (rows buffer : List ℕ) : Type 0 where
   -- a record for each row
   pub count : length rows ≡ 32 * length (records (table-left width rows buffer))
-  -- the table is exported, with room for the rows, and has the rows that were imported
+  -- the table is exported, with room for the rows; and where it is, at whatever width, it has the rows that were imported
   pub accepted : (new : List ℕ) → length rows ≤ length new → exporting width (table-left width rows buffer) (length new) .answer ≡ 0
-  pub same : (new : List ℕ) → exporting width (table-left width rows buffer) (length new) .answer ≡ 0
-      → rows-left width (table-left width rows buffer) new ≡ rows
+  pub same : (other : ℕ) (new : List ℕ) → exporting other (table-left width rows buffer) (length new) .answer ≡ 0
+      → rows-left other (table-left width rows buffer) new ≡ rows
 
 -- a good row is the row of a valid record of the width, the one that it names
 pub record OfRecord (width : ℕ) (r : List ℕ) : Type 0 where

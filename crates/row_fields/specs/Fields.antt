@@ -1,5 +1,5 @@
--- Layouts as data: fields in order, each with its bytes, whatever tells the fields apart. One writer and one reader
--- serve rows and the bodies of records alike; numbers are little-endian.
+-- Layouts as data: fields in order, each with its bytes, whatever tells the fields apart. One writer serves rows and the
+-- bodies of records alike; bodies are read by `field` of the model's Layouts. Numbers are little-endian.
 use Prim.Native.Nat.{ℕ, _+_}
 use mathlib.Core.Bool.{cond}
 use mathlib.Core.List.{List, [], _∷_, _++_}

@@ -205,7 +205,7 @@ exports-hold w t buffer b accepted =
       count = ap length left ∙ length-exported t;
       accepted = λ new fits. rw left (imports w t (length buffer) b accepted (length new) fits);
       same =
-          λ new again. table-left-is w (rows-left w t buffer) new again
+          λ other new again. table-left-is other (rows-left w t buffer) new again
           ∙ ap imported left
           ∙ imports-same w t (length buffer) b accepted;
     }
@@ -218,7 +218,7 @@ imports-hold w rows buffer b accepted =
     record {
       count = sym (ap length back) ∙ length-exported (imported rows) ∙ ap (λ t. 32 * length (records t)) (sym left);
       accepted = λ new fits. rw left (exports w rows (length buffer) b accepted (length new) fits);
-      same = λ new again. rows-left-are w (table-left w rows buffer) new again ∙ ap exported left ∙ back;
+      same = λ other new again. rows-left-are other (table-left w rows buffer) new again ∙ ap exported left ∙ back;
     }
 
 pub round-trips-hold : RoundTrips
