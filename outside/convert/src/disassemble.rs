@@ -2,7 +2,7 @@
 
 use crate::forms::{Form, Rule};
 use common::{hex, number, LINEAR_WIDTHS, LOG_LIMIT};
-use std::fmt::Write;
+use std::fmt::{Display, Write};
 
 /// The bytes on one `raw` line, where a log is raw to its end.
 const RAW_LINE: usize = 32;
@@ -51,6 +51,13 @@ pub fn fault(linear_width: u64, bytes: &[u8]) -> Option<String> {
     };
     let reason = disassemble_event(linear_width, form, event).err()?;
     Some(format!("{}, but {reason}", form.name))
+}
+
+/// That a run ended at an event that is cut or of an unknown kind, with its number, the
+/// byte at which it starts, and why.
+pub fn ended(linear_width: u64, number: impl Display, byte: impl Display, event: &[u8]) -> String {
+    let why = fault(linear_width, event).unwrap_or_default();
+    format!("the run ended at event {number}, byte {byte}: {why}")
 }
 
 /// The line of one whole, valid event of a linear width; None of other bytes.
@@ -117,7 +124,12 @@ fn disassemble_event(linear_width: u64, form: &Form, event: &[u8]) -> Result<Str
                     let _ = write!(line, " {}={number:#x}", field.name);
                 }
             }
-            _ => return Err(format!("the flag of {} is at most 0x1", field.name)),
+            flag => {
+                let name = field.name;
+                return Err(format!(
+                    "the flag of {name} is {flag:#x} and must be at most 0x1"
+                ));
+            }
         }
         before = number;
     }

@@ -241,7 +241,9 @@ impl Field {
             Rule::Any => self.at_most(number, u64::MAX >> (64 - 8 * self.bytes)),
             Rule::Between(least, most) => {
                 if number < least {
-                    return Err(format!("{name} is at least {least:#x}"));
+                    return Err(format!(
+                        "{name} is {number:#x} and must be at least {least:#x}"
+                    ));
                 }
                 self.at_most(number, most)
             }
@@ -250,20 +252,23 @@ impl Field {
                 let pages = 1 << (9 * before);
                 if !number.is_multiple_of(pages) {
                     return Err(format!(
-                        "{name} is a multiple of {pages:#x} with span {before:#x}"
+                        "{name} is {number:#x} and must be a multiple of {pages:#x} with span \
+                         {before:#x}"
                     ));
                 }
                 Ok(())
             }
             Rule::Canonical => {
                 if number != canonical(linear_width, number) {
-                    return Err(format!("{name} is a canonical address"));
+                    return Err(format!(
+                        "{name} is {number:#x} and must be a canonical address"
+                    ));
                 }
                 Ok(())
             }
             Rule::Zero => {
                 if number != 0 {
-                    return Err(format!("{name} are zero"));
+                    return Err(format!("{name} are {number:#x} and must be zero"));
                 }
                 Ok(())
             }
@@ -272,7 +277,10 @@ impl Field {
 
     fn at_most(&self, number: u64, most: u64) -> Result<(), String> {
         if number > most {
-            return Err(format!("{} is at most {most:#x}", self.name));
+            let name = self.name;
+            return Err(format!(
+                "{name} is {number:#x} and must be at most {most:#x}"
+            ));
         }
         Ok(())
     }

@@ -42,7 +42,7 @@
 //! [`assemble`] gives back the same log, whatever its bytes are.
 //!
 //! [`fault`], [`bad_record`] and [`row_fault`] say in these names why bytes are no
-//! event, no table and no fixed row.
+//! event, no table and no fixed row, and [`ended`] why a run ended.
 
 mod assemble;
 mod disassemble;
@@ -50,5 +50,5 @@ pub mod forms;
 mod tables;
 
 pub use assemble::{assemble, Error};
-pub use disassemble::{disassemble, fault, line};
+pub use disassemble::{disassemble, ended, fault, line};
 pub use tables::{bad_record, row_fault, BadRecord};

@@ -121,7 +121,9 @@ fn the_other_width_is_unknown() {
     assert!(at_width(57, &log).contains("\nept-violation gpa=0x0 linear=0x800000000000 "));
     let text = at_width(48, &log);
     assert!(
-        text.ends_with(": ept-violation, but linear is a canonical address\n"),
+        text.ends_with(
+            ": ept-violation, but linear is 0x800000000000 and must be a canonical address\n"
+        ),
         "{text}"
     );
 }
@@ -209,11 +211,11 @@ fn errors_name_the_line_and_the_word() {
         ),
         (
             "exit pcid=0x1000",
-            "line 1: exit: 'pcid=0x1000': pcid is at most 0xfff (raw can write what is out of range)",
+            "line 1: exit: 'pcid=0x1000': pcid is 0x1000 and must be at most 0xfff (raw can write what is out of range)",
         ),
         (
             "invvpid type=0x1 vpid=0x10000 address=0x0",
-            "line 1: invvpid: 'vpid=0x10000': vpid is at most 0xffff (raw can write what is out of range)",
+            "line 1: invvpid: 'vpid=0x10000': vpid is 0x10000 and must be at most 0xffff (raw can write what is out of range)",
         ),
         (
             "invlpg address=0x10000000000000000",
@@ -221,31 +223,31 @@ fn errors_name_the_line_and_the_word() {
         ),
         (
             "linear vpid=0x0 pcid=0x0 global=0x0 span=0x1 page=0x12201 frame=0x0",
-            "line 1: linear: 'page=0x12201': page is a multiple of 0x200 with span 0x1 (raw can write what is out of range)",
+            "line 1: linear: 'page=0x12201': page is 0x12201 and must be a multiple of 0x200 with span 0x1 (raw can write what is out of range)",
         ),
         (
             "linear-structure vpid=0x0 pcid=0x0 span=0x0 page=0x0 structure=0x0",
-            "line 1: linear-structure: 'span=0x0': span is at least 0x1 (raw can write what is out of range)",
+            "line 1: linear-structure: 'span=0x0': span is 0x0 and must be at least 0x1 (raw can write what is out of range)",
         ),
         (
             "ept-violation gpa=0x0 linear=0x100000000000000",
-            "line 1: ept-violation: 'linear=0x100000000000000': linear is a canonical address (raw can write what is out of range)",
+            "line 1: ept-violation: 'linear=0x100000000000000': linear is 0x100000000000000 and must be a canonical address (raw can write what is out of range)",
         ),
         (
             "linear vpid=0x0 pcid=0x0 global=0x0 span=0x0 page=0x1000000000 frame=0x0",
-            "line 1: linear: 'page=0x1000000000': page is at most 0xfffffffff (raw can write what is out of range)",
+            "line 1: linear: 'page=0x1000000000': page is 0x1000000000 and must be at most 0xfffffffff (raw can write what is out of range)",
         ),
         (
             "linear-57 vpid=0x0 pcid=0x0 global=0x0 span=0x0 page=0x200000000000 frame=0x0",
-            "line 1: linear-57: 'page=0x200000000000': page is at most 0x1fffffffffff (raw can write what is out of range)",
+            "line 1: linear-57: 'page=0x200000000000': page is 0x200000000000 and must be at most 0x1fffffffffff (raw can write what is out of range)",
         ),
         (
             "linear-structure-57 vpid=0x0 pcid=0x0 span=0x5 page=0x0 structure=0x0",
-            "line 1: linear-structure-57: 'span=0x5': span is at most 0x4 (raw can write what is out of range)",
+            "line 1: linear-structure-57: 'span=0x5': span is 0x5 and must be at most 0x4 (raw can write what is out of range)",
         ),
         (
             "linear-structure-57 vpid=0x0 pcid=0x0 span=0x4 page=0x8000000 structure=0x0",
-            "line 1: linear-structure-57: 'page=0x8000000': page is a multiple of 0x1000000000 with span 0x4 (raw can write what is out of range)",
+            "line 1: linear-structure-57: 'page=0x8000000': page is 0x8000000 and must be a multiple of 0x1000000000 with span 0x4 (raw can write what is out of range)",
         ),
         ("raw", "line 1: raw: there are no bytes"),
         ("raw 1", "line 1: raw: '1' has an odd number of digits"),
@@ -275,24 +277,33 @@ fn errors_name_the_line_and_the_word() {
 #[test]
 fn what_the_names_cannot_say_is_raw() {
     for (bytes, reason) in [
-        (vec![24, 0, 0x10, 0], "switch, but pcid is at most 0xfff"),
-        (vec![24, 0, 0, 4], "switch, but cpl is at most 0x3"),
-        (vec![27, 0, 0x10], "mov-to-cr3, but pcid is at most 0xfff"),
+        (
+            vec![24, 0, 0x10, 0],
+            "switch, but pcid is 0x1000 and must be at most 0xfff",
+        ),
+        (
+            vec![24, 0, 0, 4],
+            "switch, but cpl is 0x4 and must be at most 0x3",
+        ),
+        (
+            vec![27, 0, 0x10],
+            "mov-to-cr3, but pcid is 0x1000 and must be at most 0xfff",
+        ),
         (
             [&[16, 2], &[0; 9][..], &[1], &[0; 13]].concat(),
-            "invvpid, but descriptor bits 63:16 are zero",
+            "invvpid, but descriptor bits 63:16 are 0x1 and must be zero",
         ),
         (
             [&[17, 2], &[0; 15][..], &[1], &[0; 7]].concat(),
-            "invept, but descriptor bits 127:64 are zero",
+            "invept, but descriptor bits 127:64 are 0x1 and must be zero",
         ),
         (
             [&[26, 2], &[0; 8][..], &[0x10], &[0; 14]].concat(),
-            "invpcid, but pcid is at most 0xfff",
+            "invpcid, but pcid is 0x1000 and must be at most 0xfff",
         ),
         (
             [&[26, 2], &[0; 14][..], &[1], &[0; 8]].concat(),
-            "invpcid, but descriptor bits 63:16 are zero",
+            "invpcid, but descriptor bits 63:16 are 0x10000000000 and must be zero",
         ),
         (
             [&[20, 0, 5], &[0; 13][..]].concat(),
@@ -300,7 +311,7 @@ fn what_the_names_cannot_say_is_raw() {
         ),
         (
             [&[20, 2], &[0; 14][..]].concat(),
-            "entry, but the flag of vpid is at most 0x1",
+            "entry, but the flag of vpid is 0x2 and must be at most 0x1",
         ),
         (vec![0], "unknown kind 0x0, a replay ends here"),
         (
@@ -438,7 +449,7 @@ fn a_bad_record() {
         (good.repeat(3), None),
         (
             [&good[..], &global, &[0]].concat(),
-            bad(2, 17, "linear, but global is at most 0x1"),
+            bad(2, 17, "linear, but global is 0x2 and must be at most 0x1"),
         ),
         (
             [&good.repeat(2)[..], &good[..16]].concat(),

@@ -77,10 +77,10 @@ fn logs_that_are_not_read_to_their_end() {
     checkout.write("a.log", &log);
     assert_eq!(checkout.sh("./skuldrefn stream three.log").status, 0);
     for (words, why) in [
-        ("cut.log", "event 3, byte 17: the record is cut"),
+        ("cut.log", "event 3, byte 17: linear cut to 13 of 17 bytes"),
         (
             "--linear-width 57 a.log",
-            "event 3, byte 17: the kind is unknown",
+            "event 3, byte 17: unknown kind 0x1, one of 48-bit linear addresses",
         ),
     ] {
         let run = checkout.sh(&format!("./skuldrefn stream {words}"));
@@ -117,8 +117,21 @@ fn as_the_replay_program() {
         let stream = checkout.sh("./skuldrefn stream the.log");
         assert!(stream.out == replay.out, "{what}");
         assert_eq!(stream.status, replay.status, "{what}");
-        // What is said differs in the program's name alone.
-        assert_eq!(stream.said, replay.said.replace("replay:", "stream:"));
+        // Both say where it ended, and why each in its own words.
+        let (no_room, ended): (Vec<_>, Vec<_>) = stream
+            .said
+            .lines()
+            .partition(|line| line.contains(": no room for this mapping; "));
+        let places = |said: Vec<&str>| -> Vec<String> {
+            let places = said.iter().filter_map(|line| line.rsplit_once(": "));
+            places
+                .map(|(place, _)| place.replace("replay:", "stream:"))
+                .collect()
+        };
+        assert_eq!(places(ended), places(replay.said.lines().collect()));
+        let refused = |line: &str| line.split(' ').nth(1) == Some("12");
+        let due = usize::from(replay.out.lines().any(refused));
+        assert_eq!(no_room.len(), due, "{what}: {}", stream.said);
     };
     let mut count = 0;
     for entry in fs::read_dir(top().join("examples")).expect("the examples") {

@@ -214,6 +214,22 @@ fn options_after_the_file() {
         ("judge three.log --make", "options go before the file"),
         ("judge - --linear-width 57", "options go before the file"),
         ("stream - --linear-width 57", "options go before the file"),
+        (
+            "stream --linear-width 57 --linear-width 57 three.log",
+            "--linear-width is given twice",
+        ),
+        (
+            "disassemble --linear-width 48 --linear-width 57",
+            "--linear-width is given twice",
+        ),
+        (
+            "rows --linear-width 57 --linear-width 57 a.table",
+            "--linear-width is given twice",
+        ),
+        (
+            "table --linear-width 57 --linear-width",
+            "--linear-width is given twice",
+        ),
     ] {
         let run = checkout.sh(&format!("./skuldrefn {words}"));
         let command = words.split(' ').next().expect("a command");
@@ -252,6 +268,21 @@ fn help_of_replay() {
     for due in [
         "or reading fails midway, or a line cannot be written.",
         "It is 2 where the log is not there, is a folder or may not be read.",
+        "./skuldrefn stream prints the lines of a log of any length.",
+    ] {
+        assert!(own.contains(due), "{own}");
+    }
+}
+
+#[test]
+fn help_of_stream() {
+    let own = Checkout::bare().sh("./skuldrefn help stream").out;
+    let own = own.replace('\n', " ");
+    for due in [
+        "standard error says which, and of a cut record or an unknown kind at which byte.",
+        "refused for room (answer 12) is told on standard error too:",
+        " stty -F /dev/ttyS0 raw -echo 115200 ",
+        "Ctrl-C ends the run.",
     ] {
         assert!(own.contains(due), "{own}");
     }

@@ -162,7 +162,7 @@ fn claims_that_are_no_tables() {
         ),
         (
             [a.clone(), global].concat(),
-            "17 linear, but global is at most 0x1",
+            "17 linear, but global is 0x2 and must be at most 0x1",
         ),
         ([&a[..], &[22]].concat(), "17 kind 0x16 is no mapping's"),
         (wide, "0 unknown kind 0x7, one of 57-bit linear addresses"),

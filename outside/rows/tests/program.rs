@@ -125,7 +125,7 @@ fn tables_that_are_refused() {
         ),
         (
             [A, global].concat(),
-            format!("record 2 at byte 17 {bad}: linear, but global is at most 0x1"),
+            format!("record 2 at byte 17 {bad}: linear, but global is 0x2 and must be at most 0x1"),
         ),
         (
             [A, G].concat()[..33].to_vec(),
@@ -177,17 +177,26 @@ fn rows_that_are_refused() {
         (with(ROW_A, &[(0, 11)]), "unknown kind 0xb"),
         (with(ROW_A, &[(0, 16)]), "kind 0x10 is no mapping's"),
         (with(ROW_A, &[(0, 22)]), "kind 0x16 is no mapping's"),
-        (with(ROW_A, &[(1, 3)]), "linear, but span is at most 0x2"),
-        (with(ROW_A, &[(1, 255)]), "linear, but span is at most 0x2"),
+        (
+            with(ROW_A, &[(1, 3)]),
+            "linear, but span is 0x3 and must be at most 0x2",
+        ),
+        (
+            with(ROW_A, &[(1, 255)]),
+            "linear, but span is 0xff and must be at most 0x2",
+        ),
         (
             with(structure, &[(1, 0)]),
-            "linear-structure, but span is at least 0x1",
+            "linear-structure, but span is 0x0 and must be at least 0x1",
         ),
         (
             with(structure, &[(1, 4)]),
-            "linear-structure, but span is at most 0x3",
+            "linear-structure, but span is 0x4 and must be at most 0x3",
         ),
-        (with(ROW_A, &[(2, 2)]), "linear, but global is at most 0x1"),
+        (
+            with(ROW_A, &[(2, 2)]),
+            "linear, but global is 0x2 and must be at most 0x1",
+        ),
         (
             with(structure, &[(2, 1)]),
             "linear-structure, but global is unused and not zero",
@@ -203,27 +212,27 @@ fn rows_that_are_refused() {
         ),
         (
             with(ROW_A, &[(6, 0), (7, 16)]),
-            "linear, but pcid is at most 0xfff",
+            "linear, but pcid is 0x1000 and must be at most 0xfff",
         ),
         (
             with(ROW_A, &[(12, 0x10)]),
-            "linear, but page is at most 0xfffffffff",
+            "linear, but page is 0x1000012345 and must be at most 0xfffffffff",
         ),
         (
             with(ROW_A, &[(15, 0x80)]),
-            "linear, but page is at most 0xfffffffff",
+            "linear, but page is 0x8000000000012345 and must be at most 0xfffffffff",
         ),
         (
             with(ROW_A, &[(1, 1)]),
-            "linear, but page is a multiple of 0x200 with span 0x1",
+            "linear, but page is 0x12345 and must be a multiple of 0x200 with span 0x1",
         ),
         (
             with(ROW_A, &[(21, 1)]),
-            "linear, but frame is at most 0xffffffffff",
+            "linear, but frame is 0x100000abcde and must be at most 0xffffffffff",
         ),
         (
             with(structure, &[(23, 1)]),
-            "linear-structure, but structure is at most 0xffffffffff",
+            "linear-structure, but structure is 0x1000000000abcde and must be at most 0xffffffffff",
         ),
         (
             with(ROW_A, &[(24, 1)]),
@@ -231,12 +240,12 @@ fn rows_that_are_refused() {
         ),
         (
             with(combined, &[(29, 1)]),
-            "combined, but ep4ta is at most 0xffffffffff",
+            "combined, but ep4ta is 0x10001234567 and must be at most 0xffffffffff",
         ),
         // The first bad field in the row's order.
         (
             with(ROW_A, &[(2, 2), (3, 1), (31, 1)]),
-            "linear, but global is at most 0x1",
+            "linear, but global is 0x2 and must be at most 0x1",
         ),
     ] {
         let due = format!("is no valid row of 48-bit linear addresses: {why}\n");
@@ -252,11 +261,11 @@ fn rows_that_are_refused() {
         (ROW_A, "unknown kind 0x1, one of 48-bit linear addresses"),
         (
             with(ROW_W, &[(13, 0x20)]),
-            "combined-structure-57, but page is at most 0x1fffffffffff",
+            "combined-structure-57, but page is 0x201000000000 and must be at most 0x1fffffffffff",
         ),
         (
             with(ROW_W, &[(1, 5)]),
-            "combined-structure-57, but span is at most 0x4",
+            "combined-structure-57, but span is 0x5 and must be at most 0x4",
         ),
     ] {
         let due = format!("table: row 2 at byte 32 {bad}: {why}\n");

@@ -5,7 +5,8 @@
 //! as soon as its last byte is there, and what is amiss to standard error. Exit
 //! status 1 for a log that ends at a cut record or an unknown kind, an input that
 //! fails midway and an output that cannot be written; 2 for wrong words and a file
-//! that cannot be read.
+//! that cannot be read. The first creation that is refused for room is told too, and
+//! leaves the status as it is.
 
 mod run;
 mod words;
@@ -28,11 +29,15 @@ fn main() -> ExitCode {
     match stream() {
         Ok(()) => ExitCode::SUCCESS,
         Err(Failure(status, reason)) => {
-            // If standard error is gone too there is nobody left to tell.
-            let _ = writeln!(io::stderr(), "stream: {reason}");
+            tell(&reason);
             ExitCode::from(status)
         }
     }
+}
+
+/// A line on standard error; if that is gone there is nobody left to tell.
+fn tell(reason: &str) {
+    let _ = writeln!(io::stderr(), "stream: {reason}");
 }
 
 fn stream() -> Result<(), Failure> {
@@ -60,6 +65,9 @@ fn stream() -> Result<(), Failure> {
         };
         // Nothing waits for bytes that may be long in coming, nor for the end.
         let ended = ended.and_then(|ended| output.flush().map(|()| ended));
+        if let Some(why) = run.no_room() {
+            tell(&why);
+        }
         match ended.map_err(unwritten)? {
             Some(why) => return Err(Failure(1, why)),
             None if count == 0 => return Ok(()),

@@ -5,6 +5,9 @@ pub use skuldrefn::Line;
 use skuldrefn::{Context, Reader, Tally, PROGRAM_CAPABILITY, PROGRAM_WIDTH, TABLE_LIMIT};
 use std::io::{self, Write};
 
+/// The answer to a creation where there is no room.
+const NO_ROOM: u64 = 12;
+
 /// What is in force.
 pub struct Run {
     reader: Reader,
@@ -14,10 +17,13 @@ pub struct Run {
     tables: [Vec<u8>; 2],
     /// The length of that table.
     length: usize,
-    /// How many bytes of the log were taken, and how many of them before the event
-    /// that is not finished.
-    taken: u64,
+    /// The bytes that were taken of the event that is not finished, and how many bytes
+    /// of the log are before it.
+    event: Vec<u8>,
     start: u64,
+    /// Whether a creation was refused for room, and what is to be said of the first.
+    is_full: bool,
+    no_room: Option<String>,
 }
 
 impl Run {
@@ -29,8 +35,10 @@ impl Run {
             tally: Tally::new(),
             tables: [vec![0; TABLE_LIMIT], vec![0; TABLE_LIMIT]],
             length: 0,
-            taken: 0,
+            event: Vec::new(),
             start: 0,
+            is_full: false,
+            no_room: None,
         }
     }
 
@@ -43,8 +51,9 @@ impl Run {
             let old = &old[..self.length];
             let context = &self.context;
             let taken = self.reader.take(context, &mut self.tally, old, rest, new);
-            rest = &rest[taken.taken..];
-            self.taken += taken.taken as u64;
+            let (own, after) = rest.split_at(taken.taken);
+            self.event.extend_from_slice(own);
+            rest = after;
             let Some(step) = taken.step else {
                 continue;
             };
@@ -61,9 +70,18 @@ impl Run {
                 return Ok(Some(why));
             }
             if self.reader.ignoring != 0 {
-                return Ok(Some(self.ended("the kind is unknown")));
+                return Ok(Some(self.ended()));
             }
-            self.start = self.taken;
+            if step.answer == NO_ROOM && !self.is_full {
+                self.is_full = true;
+                let (number, byte) = (self.reader.line, self.start);
+                self.no_room = Some(format!(
+                    "event {number}, at byte {byte}: no room for this mapping; from here on \
+                     mappings may be missing"
+                ));
+            }
+            self.start += self.event.len() as u64;
+            self.event.clear();
         }
         Ok(None)
     }
@@ -75,7 +93,12 @@ impl Run {
             return Ok(None);
         };
         print(&self.line(answer, 0), output)?;
-        Ok(Some(self.ended("the record is cut")))
+        Ok(Some(self.ended()))
+    }
+
+    /// What is to be said, once, of the first creation that was refused for room.
+    pub fn no_room(&mut self) -> Option<String> {
+        self.no_room.take()
     }
 
     fn line(&self, answer: u64, dropped: usize) -> Line {
@@ -88,8 +111,8 @@ impl Run {
     }
 
     /// Where the run has ended, and why.
-    fn ended(&self, why: &str) -> String {
-        let (number, byte) = (self.reader.line, self.start);
-        format!("the run ended at event {number}, byte {byte}: {why}")
+    fn ended(&self) -> String {
+        let width = self.context.linear_width;
+        convert::ended(width, self.reader.line, self.start, &self.event)
     }
 }

@@ -7,7 +7,8 @@ usage: stream [--linear-width 57] [FILE]
 Replays a binary event log of any length as it arrives: one line for each event,
 as soon as its last byte is there, with its number, its answer, how many mappings
 it dropped, and how many bytes of mappings are in force after it. It ends at the
-end of the input, at an unknown kind, or at a cut record. The linear width is 48
+end of the input, at an unknown kind, or at a cut record. The first mapping that is
+refused for room (answer 12) is told on standard error. The linear width is 48
 if not given. Where FILE is - or not given, standard input is read; -- goes before
 a FILE that starts with -.";
 

@@ -95,10 +95,7 @@ fn stop(linear_width: u64, events: &[&[u8]]) -> Option<String> {
     }
     let number = events.len();
     let byte: usize = others.iter().map(|event| event.len()).sum();
-    let why = convert::fault(linear_width, last).unwrap_or_default();
-    Some(format!(
-        "the run ended at event {number}, byte {byte}: {why}"
-    ))
+    Some(convert::ended(linear_width, number, byte, last))
 }
 
 /// The log, or of a longer one the first byte too many: no more is needed to

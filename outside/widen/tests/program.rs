@@ -95,7 +95,9 @@ fn refusals() {
         ),
         (
             [A, global].concat(),
-            format!("record 2 at byte 17 {bad}: linear, but global is at most 0x1\n"),
+            format!(
+                "record 2 at byte 17 {bad}: linear, but global is 0x2 and must be at most 0x1\n"
+            ),
         ),
         // Cut in its last byte.
         (

@@ -1,9 +1,10 @@
 //! `audit LOG...`: many logs, on all cores, and a table of what was found.
 
-use crate::finder::watch;
+use crate::finder::{sought, watch};
 use crate::json::Json;
 use crate::log::Log;
 use crate::renters::Renters;
+use crate::room::NoRoom;
 use crate::words::{Settings, Words};
 use crate::{print, tell, Failure, Found};
 use skuldrefn::LOG_LIMIT;
@@ -38,7 +39,8 @@ struct Outcome {
     leaks: Option<usize>,
     /// How many stale translations were found; None where it is known who rents.
     stale: Option<usize>,
-    /// Why the log was not read, or not to its end, or is too long.
+    /// Why the log was not read, or not to its end, or is too long, or why not all
+    /// may be found.
     amiss: Option<String>,
 }
 
@@ -115,12 +117,20 @@ pub fn audit(words: &Words) -> Found {
         let names = ["leaks", "stale", "refused", "most", "events"];
         let names = names.map(|name| format!("{name:>7}")).join(" ");
         let lines: String = outcomes.iter().map(Outcome::line).collect();
-        let count = outcomes.len();
+        let count = counted(outcomes.len());
         print(&format!(
-            "{names}  log\n{lines}{count} logs, {found} with findings\n"
+            "{names}  log\n{lines}{count}, {found} with findings\n"
         ))?;
     }
     Ok(found > 0)
+}
+
+/// So many logs, in words.
+fn counted(logs: usize) -> String {
+    match logs {
+        1 => "1 log".to_string(),
+        logs => format!("{logs} logs"),
+    }
 }
 
 /// The logs that the words name. A folder stands for its files that end in .log; one
@@ -174,7 +184,7 @@ fn on_all_cores(logs: &[PathBuf], work: impl Fn(&Path) -> Outcome + Sync) -> Vec
         loop {
             let so_far = done.load(Ordering::Acquire);
             if so_far == count || told.elapsed() >= TOLD_EVERY {
-                tell("audit", &format!("{so_far} of {count} logs"));
+                tell("audit", &format!("{so_far} of {}", counted(count)));
                 told = Instant::now();
             }
             if so_far == count {
@@ -221,7 +231,7 @@ fn run_log(
     } else {
         None
     };
-    let mut findings = 0;
+    let (mut findings, mut no_room) = (0, None);
     let last = watch(
         &log,
         settings,
@@ -230,6 +240,7 @@ fn run_log(
             outcome.events = event.number;
             outcome.most = outcome.most.max(run.count());
             findings += found.new.len();
+            NoRoom::add(&mut no_room, event, taken);
             if taken.answer != 0 {
                 *outcome.refused.entry(taken.answer).or_insert(0) += 1;
             }
@@ -247,8 +258,7 @@ fn run_log(
     let length = log.bytes.len();
     let long = (length > LOG_LIMIT && !any_length)
         .then(|| format!("too long: {length} bytes, and replay takes 65,536"));
-    Ok(match (long, amiss) {
-        (Some(long), Some(amiss)) => Some(format!("{long}; {amiss}")),
-        (long, amiss) => long.or(amiss),
-    })
+    let no_room = no_room.map(|own| own.words(sought(renters.as_ref())));
+    let all: Vec<String> = [long, no_room, amiss].into_iter().flatten().collect();
+    Ok((!all.is_empty()).then(|| all.join("; ")))
 }

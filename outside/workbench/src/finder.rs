@@ -24,6 +24,14 @@ pub struct Finding {
     pub between: Option<(usize, usize)>,
 }
 
+/// What is looked for, in words.
+pub fn sought(renters: Option<&Renters>) -> &'static str {
+    match renters {
+        Some(_) => "leaks",
+        None => "stale translations",
+    }
+}
+
 /// What an event brings to light.
 #[derive(Default)]
 pub struct Findings {

@@ -1,11 +1,12 @@
 //! `leaks LOG [renters=FILE]`: what one renter can use of another's.
 
-use crate::finder::{watch, Finding};
+use crate::finder::{sought, watch, Finding};
 use crate::invalidations::{Invalidation, Invalidations, LISTED};
 use crate::json::Json;
 use crate::log::{Event, Log};
 use crate::names;
 use crate::renters::Renters;
+use crate::room::NoRoom;
 use crate::words::Words;
 use crate::{tell, Found};
 use common::{encode, field};
@@ -66,6 +67,8 @@ struct Leaks<'a> {
     entries: usize,
     /// How many translations were created.
     creations: usize,
+    /// Creations that were refused for room; None where there are none.
+    no_room: Option<NoRoom>,
 }
 
 pub fn leaks(words: &Words) -> Found {
@@ -82,6 +85,7 @@ pub fn leaks(words: &Words) -> Found {
         reports: Vec::new(),
         entries: 0,
         creations: 0,
+        no_room: None,
     };
     let mut entered = None;
     let last = watch(&log, &words.settings, renters, |_, event, taken, found| {
@@ -107,6 +111,7 @@ pub fn leaks(words: &Words) -> Found {
             leaks.reports.push(report);
         }
         leaks.invalidations.add(event, taken);
+        NoRoom::add(&mut leaks.no_room, event, taken);
     })?;
     let amiss = log.amiss(last);
     let mut out = BufWriter::new(io::stdout().lock());
@@ -119,7 +124,7 @@ pub fn leaks(words: &Words) -> Found {
     if let Some(why) = &amiss {
         tell("leaks", why);
     }
-    Ok(leaks.count() > 0 || amiss.is_some())
+    Ok(leaks.count() > 0 || leaks.no_room.is_some() || amiss.is_some())
 }
 
 impl Leaks<'_> {
@@ -146,8 +151,13 @@ impl Leaks<'_> {
     }
 
     fn text(&self, out: &mut impl Write) -> io::Result<()> {
+        let sought = sought(self.renters);
+        let mut no_room = self.no_room;
         for report in &self.reports {
             let (at, byte, event) = (report.at, report.byte, &report.event);
+            if let Some(before) = no_room.take_if(|first| first.at < at) {
+                writeln!(out, "{}", before.words(sought))?;
+            }
             writeln!(out, "event {at}, at byte {byte}: {event}")?;
             if report.again > 0 {
                 writeln!(out, "  still usable, told before: {}", report.again)?;
@@ -156,12 +166,19 @@ impl Leaks<'_> {
                 self.told_text(told, out)?;
             }
         }
+        if let Some(last) = no_room {
+            writeln!(out, "{}", last.words(sought))?;
+        }
         let (count, entries, creations) = (self.count(), self.entries, self.creations);
+        let more = match self.no_room {
+            Some(_) => "; others may be missed",
+            None => "",
+        };
         match self.renters {
-            Some(_) => writeln!(out, "leaks: {count}, in {entries} VM entries"),
+            Some(_) => writeln!(out, "{sought}: {count}, in {entries} VM entries{more}"),
             None => writeln!(
                 out,
-                "stale translations: {count}, in {creations} translations created"
+                "{sought}: {count}, in {creations} translations created{more}"
             ),
         }
     }
@@ -215,6 +232,10 @@ impl Leaks<'_> {
         let rest = Json::object()
             .with("entries", self.entries)
             .with("translations", self.creations)
+            .with(
+                "room",
+                self.no_room.map_or("null".to_string(), |own| own.json()),
+            )
             .text("stopped", stopped)
             .end();
         writeln!(out, "],{}", &rest[1..])

@@ -19,6 +19,7 @@ mod lookup;
 mod names;
 mod renters;
 mod replay;
+mod room;
 mod run;
 mod show;
 mod view;

@@ -5,6 +5,7 @@ use crate::invalidations::{Invalidations, LISTED};
 use crate::log::Log;
 use crate::names::{self, Fields};
 use crate::renters::Renters;
+use crate::room::NoRoom;
 use crate::run::Taken;
 use crate::words::Words;
 use crate::{print, tell, Found};
@@ -30,6 +31,8 @@ pub struct Picture {
     pub groups: Vec<Group>,
     /// How many mappings were found that should not be usable any more.
     pub findings: usize,
+    /// Creations that were refused for room; None where there are none.
+    pub no_room: Option<NoRoom>,
 }
 
 /// A mapping from its creation to its end.
@@ -82,6 +85,7 @@ pub fn view(words: &Words) -> Found {
                 drawing.found(finding, &said);
             }
             drawing.invalidations.add(event, taken);
+            NoRoom::add(&mut drawing.picture.no_room, event, taken);
         },
     )?;
     let picture = drawing.end();
@@ -122,6 +126,7 @@ impl Drawing<'_> {
                 bars: Vec::new(),
                 groups: Vec::new(),
                 findings: 0,
+                no_room: None,
             },
             invalidations: Invalidations::default(),
             places: BTreeMap::new(),

@@ -78,11 +78,7 @@ fn logs_that_are_amiss() {
     }
     let any = run(&["audit", "--any-length", &long]);
     assert_eq!(any.status, 0, "{}", any.out);
-    assert!(
-        any.out.ends_with("1 logs, 0 with findings\n"),
-        "{}",
-        any.out
-    );
+    assert!(any.out.ends_with("1 log, 0 with findings\n"), "{}", any.out);
     // A folder without logs stops no others either.
     let nothing = folder.name("folder.log");
     let empty = run(&["audit", &nothing, "examples/five-events.log"]);

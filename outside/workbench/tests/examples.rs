@@ -144,7 +144,7 @@ fn refusals_in_words() {
         "\n11 8 0 0 invept type=0x1 eptp=0x123456709e  # refused with 8: VMfail, invalid operand, bad EPTP: bits 11:7\n",
         "\n12 10 0 0 entry vpid=0x0 ept=off pcid=0x1 cpl=0x0  # refused with 10: the VM entry fails, VPID 0\n",
         "\n13 10 0 0 entry vpid=0x5 ept=0x1234567006 pcid=0x1 cpl=0x0  # refused with 10: the VM entry fails, bad EPTP: walk length\n",
-        "\n17 4 0 17 raw 18 00 10 00  # refused with 4: not exactly one valid record; switch, but pcid is at most 0xfff\n",
+        "\n17 4 0 17 raw 18 00 10 00  # refused with 4: not exactly one valid record; switch, but pcid is 0x1000 and must be at most 0xfff\n",
     ] {
         assert!(out.contains(due), "{due}");
     }

@@ -92,12 +92,14 @@ fn the_leaks_for_a_script() {
         r#"{{"at":48,"byte":753,"event":"switch pcid=0x2 cpl=0x0",{who},"created":36,"record":"{PAGE_36}","earlier":0,"spared":[{berts}],{mend}}}"#
     );
     assert!(run.out.starts_with(r#"{"findings":[{"at":45,"byte":698,"#));
-    let end = format!(r#",{second},{third}],"entries":7,"translations":19,"stopped":""}}"#) + "\n";
+    let end =
+        format!(r#",{second},{third}],"entries":7,"translations":19,"room":null,"stopped":""}}"#)
+            + "\n";
     assert!(run.out.ends_with(&end), "{}", run.out);
     due(
         &["leaks", "--json", MENDED, MENDED_RENTERS],
         0,
-        "{\"findings\":[],\"entries\":7,\"translations\":19,\"stopped\":\"\"}\n",
+        "{\"findings\":[],\"entries\":7,\"translations\":19,\"room\":null,\"stopped\":\"\"}\n",
     );
 }
 
