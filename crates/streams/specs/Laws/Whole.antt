@@ -1,8 +1,9 @@
--- Fragments from the start give what the whole log gives, proved: first for the log in one fragment, event by event.
-use Prim.Native.Nat.{ℕ, zero, suc, _+_, _≤_, _<_}
-use mathlib.Core.Path.{_≡_, refl, sym, ap, ap₂, subst, _∙_}
+-- Fragments from any stream between two events, and from the start, give what the whole log gives, proved: first for the log in
+-- one fragment, event by event.
+use Prim.Native.Nat.{ℕ, zero, suc, _+_, _*_, _/_, _≤_, _<_}
+use mathlib.Core.Path.{_≡_, refl, sym, ap, ap₂, _∙_}
 use mathlib.Core.Bool.{Bool, true, false, cond, _&&_}
-use mathlib.Core.List.{List, [], _∷_, _++_, map, append-nil, append-assoc}
+use mathlib.Core.List.{List, [], _∷_, _++_, map, map-append, append-nil, append-assoc}
 use native.Mathlib.Omega.{arith}
 use native.Mathlib.Nat.{le-refl}
 use borrow.Author.Tests.{ne-eqb}
@@ -26,16 +27,17 @@ use Rattle.counted_runs.specs.Runs.{CountedRun, Fresh, counted-started, counted
 use Rattle.counted_runs.specs.Laws.Steps.{fresh-started, fresh-after, counted-after-plain, counted-report-plain, counted-answer-plain}
 use Rattle.counted_runs.specs.Laws.Demand3.{counted-reports-plain, counted-of-plain}
 use Rattle.logs.specs.Logs.{known-at, event-size, events-within, events-of}
-use Rattle.logs.specs.Replays.{run-line, run-lines}
+use Rattle.logs.specs.Replays.{run-line, run-lines, row-length, replayed}
 use Rattle.logs.specs.Laws.Logs.{event-size-cut, events-of-cons, events-of-end}
 use Rattle.readers.specs.Readers.{held-bytes, first-size, complete, counts-as-ignoring, next-line}
 use Rattle.readers.specs.Laws.Readers.{first-size-none, first-size-positive, kind-of-take, listens}
 use Rattle.fragments.specs.Fragments.{event-taken, ignoring-after, cut-answer}
 use Rattle.fragments.specs.Laws.Calls.{cut-answer-none, cut-answer-some}
 use Rattle.streams.specs.Streams.{Told, Stream, call, called, fed, fed-all, finished, begun}
-use Rattle.streams.specs.Theorem.{line-of, numbers-behind, as-the-whole}
+use Rattle.streams.specs.Theorem.{line-of, numbers-behind, Between, as-the-whole-between, AsTheWholeAsLong, as-the-whole-as-long, as-the-whole}
 use Rattle.streams.specs.Laws.Calls.{width, hold, told-of, after, called-finished, hold-awake, finished-ignored, finished-none, finished-cut}
 use Rattle.streams.specs.Laws.Cuts.{fed-none, fed-first, fed-held, fed-ignored, cuts-do-not-matter-holds}
+use Rattle.streams.specs.Laws.AsLong.{as-long-lines, as-long-reports, as-long-of, as-long-run, as-long-fresh, fresh-as-long, as-long-started}
 
 -- ---- bytes that are no valid event: 1, 2, 3, else 4, and nothing changes
 
@@ -83,13 +85,9 @@ unfoldable pub told-all : ℕ → CountedRun → List (List ℕ) → List Told
 told-all line s [] = []
 told-all line s (e ∷ es) = told-of line s e ∷ told-all (next-line line) (counted-after s e) es
 
--- a stream between two events of a run that started with an empty table
-record Between (s : Stream) : Type 0 where
-  full : length (s .reader .held) ≡ 24
-  flag : s .reader .ignoring ≡ false
-  none : s .reader .length ≡ 0
-  tabled : Tabled (s .run .run)
-  fresh : Fresh (s .run)
+-- the run of a stream between two events
+tabled-between : {s : Stream} → Between s → Tabled (s .run .run)
+tabled-between at = record { valid = at .valid; short = at .short }
 
 -- a stream at the end, after some events
 record Ends (s : Stream) (es : List (List ℕ)) (z : Stream) : Type 0 where
@@ -210,7 +208,7 @@ module _ (s : Stream) (at : Between s) where
         unfolding after ignoring-after
         after-flag =
             let run = s .run .run in
-            let tabled = at .tabled in
+            let tabled = tabled-between at in
             rw (
               known-event,
               ne-eqb (counted-result (s .run) e .step .answer) 2 (λ two. answer-not-2 (run .context) (run .table) e (length (run .back)) (tabled .valid) (tabled .short) (sym answer-is ∙ two)),
@@ -220,11 +218,13 @@ module _ (s : Stream) (at : Between s) where
         between-after : Between (after s e)
         unfolding after
         between-after =
+            let tabled = tabled-after (s .run .run) e (tabled-between at) in
             record {
               full = at .full;
               flag = after-flag;
               none = refl;
-              tabled = rw (counted-after-plain (s .run) e (at .fresh)) (tabled-after (s .run .run) e (at .tabled));
+              valid = rw (counted-after-plain (s .run) e (at .fresh)) (tabled .valid);
+              short = rw (counted-after-plain (s .run) e (at .fresh)) (tabled .short);
               fresh = fresh-after (s .run) e (at .fresh);
             }
 
@@ -299,33 +299,73 @@ unfolding counted-of
 counted-fresh s [] fresh = fresh
 counted-fresh s (e ∷ es) fresh = counted-fresh (counted-after s e) es (fresh-after s e fresh)
 
+-- a replay with a row for each event is of all events
+pub replayed-all : (w : ℕ) (log : List ℕ) (room : ℕ) → row-length * length (events-of w log) ≤ room → replayed w log room ≡ events-of w log
+unfolding replayed
+replayed-all w log room enough = take-all (room / row-length) (events-of w log) (omega arith)
+
+-- ---- between two events, in any fragments
+
+-- what is read off each of two lists, one behind the other
+read-behind : {A B : Type 0} (f : A → B) (xs ys : List A) {zs : List A} {rs : List B} → zs ≡ xs ++ ys → map f ys ≡ rs → map f zs ≡ map f xs ++ rs
+read-behind f xs ys both read = ap (map f) both ∙ map-append f xs ys ∙ ap (λ rs. map f xs ++ rs) read
+
+pub as-the-whole-between-holds : as-the-whole-between
+as-the-whole-between-holds s xs at =
+    let log = joined xs in
+    let es = events-of (width s) log in
+    let new = told-all (s .reader .line) (s .run) es in
+    let same = cuts-do-not-matter-holds s xs (at .full) .after in
+    let ends = whole-log (length log) s log (le-refl _) at in
+    let told : finished (fed-all s xs) .told ≡ s .told ++ new = same .told ∙ ends .told in
+    let run : finished (fed-all s xs) .run ≡ counted-of (s .run) es = same .run ∙ ends .run in
+    record {
+      lines = read-behind line-of (s .told) new told (told-lines (s .reader .line) (s .run) es (at .fresh));
+      reports = read-behind (λ t. t .report) (s .told) new told (told-reports (s .reader .line) (s .run) es ∙ counted-reports-plain (s .run) es (at .fresh));
+      numbers = read-behind (λ t. t .line) (s .told) new told (told-numbers (s .reader .line) (s .run) es);
+      run = ap (λ (r : CountedRun). r .run) run ∙ counted-of-plain (s .run) es (at .fresh);
+      counted = run;
+      fresh = rw run (counted-fresh (s .run) es (at .fresh));
+    }
+
+-- the whole log given to a run with buffers of its own, as long
+pub as-the-whole-as-long-holds : as-the-whole-as-long
+as-the-whole-as-long-holds s r xs at k =
+    let whole = as-the-whole-between-holds s xs at in
+    let es = events-of (width s) (joined xs) in
+    let same : es ≡ events-of (r .run .context .«linear_width») (joined xs) = rw (k .context) in
+    let fresh = fresh-as-long k (at .fresh) in
+    let runs = as-long-of (s .run .run) (r .run) es (as-long-run k) in
+    let ended = counted-of-plain r es fresh in
+    record {
+      lines = rw (← same) (whole .lines ∙ ap (λ ls. map line-of (s .told) ++ ls) (as-long-lines (s .run .run) (r .run) es (as-long-run k)));
+      reports = rw (← same) (whole .reports ∙ ap (λ rs. map (λ t. t .report) (s .told) ++ rs) (as-long-reports (s .run .run) (r .run) es (as-long-run k)));
+      left = rw (← same) (as-long-fresh (whole .fresh) (counted-fresh r es fresh) (rw (whole .run, ended) runs));
+    }
+
 -- ---- from the start, in any fragments
 
 between-begun : (c : Context) (a b places : List ℕ) → length places ≡ 24 → Between (begun c a b places)
 unfolding begun counted-started
-between-begun c a b places full = record { full = full; flag = refl; none = refl; tabled = tabled-started c a b; fresh = fresh-started c a b }
-
-width-begun : (c : Context) (a b places : List ℕ) → width (begun c a b places) ≡ c .«linear_width»
-unfolding begun counted-started started after-reset
-width-begun c a b places = refl
+between-begun c a b places full =
+    let tabled = tabled-started c a b in
+    record { full = full; flag = refl; none = refl; valid = tabled .valid; short = tabled .short; fresh = fresh-started c a b }
 
 pub as-the-whole-holds : as-the-whole
-unfolding begun counted-started
-as-the-whole-holds context a b places xs full =
-    let s = begun context a b places in
-    let log = joined xs in
-    let start = counted-started context a b in
-    let fresh = fresh-started context a b in
-    let same = cuts-do-not-matter-holds s xs full .after in
-    let ends = subst (λ (w : ℕ). Ends s (events-of w log) (finished (fed s log))) (width-begun context a b places) (whole-log (length log) s log (le-refl _) (between-begun context a b places full)) in
-    let es = events-of (context .«linear_width») log in
-    let told : finished (fed-all s xs) .told ≡ told-all 0 start es = same .told ∙ ends .told in
-    let run : finished (fed-all s xs) .run ≡ counted-of start es = same .run ∙ ends .run in
+unfolding begun counted-started started after-reset
+as-the-whole-holds c a b places xs full =
+    let at = between-begun c a b places full in
+    let whole = as-the-whole-between-holds (begun c a b places) xs at in
+    let long : (a′ b′ : List ℕ) → length a ≡ length a′ → length b ≡ length b′ → AsTheWholeAsLong (begun c a b places) (counted-started c a′ b′) xs =
+    λ a′ b′ h k. as-the-whole-as-long-holds (begun c a b places) (counted-started c a′ b′) xs at (as-long-started c a b a′ b′ h k) in
     record {
-      lines = ap (map line-of) told ∙ told-lines 0 start es fresh;
-      reports = ap (map (λ t. t .report)) told ∙ told-reports 0 start es ∙ counted-reports-plain start es fresh;
-      numbers = ap (map (λ t. t .line)) told ∙ told-numbers 0 start es;
-      run = ap (λ (r : CountedRun). r .run) run ∙ counted-of-plain start es fresh;
-      counted = run;
-      fresh = rw run (counted-fresh start es fresh);
+      lines = whole .lines;
+      reports = whole .reports;
+      numbers = whole .numbers;
+      run = whole .run;
+      counted = whole .counted;
+      fresh = whole .fresh;
+      as-long = long;
+      replay = λ a′ b′ room h k enough.
+          long a′ b′ h k .lines ∙ ap (run-lines (started c a′ b′)) (sym (replayed-all (c .«linear_width») (joined xs) room (omega arith)));
     }
