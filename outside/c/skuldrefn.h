@@ -582,7 +582,8 @@ typedef struct {
  * Kinds are known by the context's linear width, any but 57 read as 48. An unknown
  * kind is finished after its one byte, and answered 4, or 1 to 3 where they apply.
  * A bad field is answered 4 too, and the log goes on behind it; so it does after any
- * answer but 2 and 3. Only after an unknown kind is reader.ignoring not 0.
+ * answer but 2 and 3. Where it does not go on, reader.ignoring is not 0: that tells an
+ * unknown kind from a bad field.
  *
  * If no event is finished, all of the fragment is taken: its bytes are held behind
  * those that were, and nothing else changes. A reader that ignores takes all of it
