@@ -103,7 +103,7 @@ pub fn perform(
     ensures { λ _. ⌜ now (new .exit) ≡ counted-written c kinds (now (pcids .entry)) (now (table .entry)) (now (raw .entry)) (now (new .entry)) ⌝ }
 {
     let mut cells = shown.cells;
-    let step = steps::perform(
+    let performed = steps::perform(
         c,
         e,
         table,
@@ -115,7 +115,7 @@ pub fn perform(
         new,
     );
     CountedStep {
-        step,
+        step: steps::accepted(c, e, performed),
         kinds: tally_rows::update(kinds, &cells),
     }
 }

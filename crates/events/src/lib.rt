@@ -94,17 +94,16 @@ fn event_of(e: &[u8], kind: u64) -> Event
     }
 }
 
-// The fields of an event are in their ranges, and a creation is of the linear width. A creation's are read from its bytes. With flag 0 an EPT violation's
-// linear address is not looked at, and a disabled VPID or EPT field of a VM entry never is.
+// The fields of an event are in their ranges, and a creation is of the linear width: its bytes are judged as a table's
+// are. With flag 0 an EPT violation's linear address is not looked at, and a disabled VPID or EPT field of a VM entry
+// never is.
 fn is_in_range(width: u64, e: &[u8], x: Event) -> bool
     requires { ⌜ length (now e) ≡ length-of (kind-of (now e)) ⌝ }
     requires { ⌜ x ≡ event (now e) ⌝ }
     ensures { λ r. ⌜ r ≡ event-in-range width x ⌝ }
 {
     match x {
-        Event::Creation(_) => {
-            valid_records::is_in_ranges(e) & !kinds::is_of_other_width(width, mappings::kind(e))
-        }
+        Event::Creation(_) => tables::is_one_record(width, e),
         Event::EptViolation(v) => {
             (v.physical < model::GUEST_PHYSICAL_LIMIT)
                 & (v.flag <= 1)

@@ -1,12 +1,12 @@
 // A table as rows of 32 bytes, and rows as a table: document 02, Ask 11.
 ghost use mathlib.Core.Path.{_≡_};
 ghost use mathlib.Core.Bool.{true};
-ghost use Prim.Native.Nat.{_%_, _≤_};
+ghost use Prim.Native.Nat.{_+_, _%_, _≤_};
 ghost use lib.ListN.{length};
 ghost use Rattle.model.specs.Buffers.{put};
 ghost use Rattle.model.specs.Tables.{limit, whole};
-ghost use Rattle.fixed_rows.specs.FixedRows.{exported, exporting, exporting-written, imported, first-bad, importing, importing-written};
-ghost use Rattle.fixed_rows.specs.Laws.Rows.{Named};
+ghost use Rattle.fixed_rows.specs.FixedRows.{exported, exporting, exporting-written, record-named, imported, first-bad, importing, importing-written};
+ghost use Rattle.fixed_rows.specs.Laws.Rows.{Fitting, Named};
 
 // The answer; the number of the first bad row, from 1, where that is the ground, else 0; and how long the result is, 0
 // where the answer is not 0.
@@ -100,7 +100,20 @@ fn judge_rows(width: u64, rows: &[u8]) -> JudgedRows
     JudgedRows { row: 0, length }
 }
 
-// Writes the records that the rows name to the front of the buffer.
+// Writes the record that a row names, at a position of the table, and nothing behind it.
+fn put_last_record(row: &[u8], table: &mut [u8], at: usize)
+    requires { ⌜ 32 ≤ length (now row) ⌝ }
+    requires { ⌜ Fitting (now row) ⌝ }
+    requires { ⌜ at + length (record-named (now row)) ≤ length (now table) ⌝ }
+    ensures { λ _. ⌜ now (table .exit) ≡ put at (record-named (now (row .entry))) (now (table .entry)) ⌝ }
+{
+    let mut record = [0u8; 26];
+    let length = row_fields::put_record(row, &mut record, 0);
+    buffers::put(&record[..length], table, at);
+}
+
+// Writes the records that the rows name to the front of the buffer. The zero bytes behind each but the last are written
+// over by the next.
 fn put_records(rows: &[u8], table: &mut [u8])
     requires { ⌜ length (now rows) % 32 ≡ 0 ⌝ }
     requires { ⌜ Named (now rows) ⌝ }
@@ -109,10 +122,13 @@ fn put_records(rows: &[u8], table: &mut [u8])
 {
     let mut at = 0;
     let mut to = 0;
-    while at < rows.len() {
+    while at + 32 < rows.len() {
         let end = at + 32;
         to = row_fields::put_record(&rows[at..end], table, to);
         at = end;
+    }
+    if at < rows.len() {
+        put_last_record(&rows[at..], table, to);
     }
 }
 

@@ -7,7 +7,7 @@ ghost use mathlib.Core.Bool.{true, cond, not, _&&_};
 ghost use Prim.Native.Nat.{_<_};
 ghost use Rattle.model.specs.Bits.{bit};
 ghost use Rattle.model.specs.Layouts.{Field, mapping-kind, event-kind, length-of};
-ghost use Rattle.model.specs.Mappings.{linear, guest-physical, combined, structure-cache, wide, other-width, global-marked, span-in-range};
+ghost use Rattle.model.specs.Mappings.{linear, guest-physical, combined, structure-cache, wide, other-width, global-marked};
 ghost use Rattle.laws.specs.Layouts.{in-set};
 ghost use Rattle.kinds.specs.Places.{number-at, place-of};
 
@@ -19,9 +19,6 @@ const LENGTHS_FROM_16: u64 = 0x01E4_2408_4709_2739;
 
 // Where the EP4TA of a mapping's record stands, in five bits for each kind; 0 where it has none.
 const EP4TAS: u64 = 0x0044_1204_0208_8400;
-
-// The spans that a mapping's record may have, five bits for each kind, bit s for span s.
-const SPANS: u64 = 0x007B_C73B_9CE3_9CE0;
 
 // Sets of kinds, bit k for kind k.
 const LINEAR: u64 = 0x292;
@@ -149,17 +146,6 @@ pub fn place_of_span(kind: u64) -> usize
     ensures { λ r. ⌜ r ≡ place-of Field.span kind ⌝ }
 {
     5 + ((SPAN_AT_6 >> kind) % 2) as usize
-}
-
-// The span is in the range of a mapping's kind.
-pub fn is_span(kind: u64, span: u64) -> bool
-    requires { ⌜ mapping-kind kind ≡ true ⌝ }
-    ensures { λ r. ⌜ r ≡ span-in-range kind span ⌝ }
-{
-    if 4 < span {
-        return false;
-    }
-    is_among(SPANS, 5 * kind + span)
 }
 
 // Where the EP4TA stands in a mapping's record; 0 where the mapping has none.

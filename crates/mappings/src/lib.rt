@@ -5,7 +5,7 @@ ghost use mathlib.Core.Bool.{false};
 ghost use mathlib.Core.Path.{_≡_};
 ghost use Rattle.model.specs.Bits.{number};
 ghost use Rattle.model.specs.Layouts.{kind-of, length-of};
-ghost use Rattle.model.specs.Mappings.{mapping, guest-physical, wide, Held, global-translation, covers};
+ghost use Rattle.model.specs.Mappings.{mapping, guest-physical, Held, global-translation, covers};
 ghost use Rattle.mappings.specs.Spans.{SpanAt};
 
 // The kind of the record at the front.
@@ -35,29 +35,20 @@ pub fn span(part: &[u8]) -> u64
 // What the sixth byte of a number counts.
 const SIXTH_BYTE: u64 = 1099511627776;
 
-// The page of the record at the front: five bytes, and a sixth where the kind is of 57 bits, which is handed in. The sixth
-// is read in any case, so that the compiler needs no branch.
-pub fn page_as(part: &[u8], is_wide: bool) -> u64
+// The page of the record at the front: five bytes, and a sixth where the kind is of 57 bits. The sixth is read in any
+// case, so that the compiler needs no branch.
+fn page(part: &[u8]) -> u64
     requires { ⌜ Held (now part) ⌝ }
-    requires { ⌜ «is_wide» ≡ wide (mapping (now part) .kind) ⌝ }
     ensures { λ r. ⌜ r ≡ mapping (now (part .entry)) .page ⌝ }
 {
     let at = span_at(part) + 1;
     let five = numbers::number5(part, at);
     let sixth = numbers::number1(part, at + 5);
-    if is_wide {
+    if kinds::is_wide(kind(part)) {
         five + SIXTH_BYTE * sixth
     } else {
         five
     }
-}
-
-// The page of the record at the front.
-fn page(part: &[u8]) -> u64
-    requires { ⌜ Held (now part) ⌝ }
-    ensures { λ r. ⌜ r ≡ mapping (now (part .entry)) .page ⌝ }
-{
-    page_as(part, kinds::is_wide(kind(part)))
 }
 
 // The frame of the record at the front, or its structure.
@@ -104,12 +95,21 @@ fn vpid(part: &[u8]) -> u64
     }
 }
 
+// The two bytes where a PCID stands in the record at the front, in the same way.
+pub fn pcid_bytes(part: &[u8]) -> u64
+    requires { ⌜ Held (now part) ⌝ }
+    ensures { λ r. ⌜ r ≡ number 2 3 (now (part .entry)) ⌝ }
+    ensures { λ r. ⌜ (guest-physical (mapping (now (part .entry)) .kind) ≡ false → r ≡ mapping (now (part .entry)) .pcid) ⌝ }
+{
+    numbers::number2(part, 3)
+}
+
 // The PCID of the record at the front, in the same way.
 pub fn pcid(part: &[u8]) -> u64
     requires { ⌜ Held (now part) ⌝ }
     ensures { λ r. ⌜ r ≡ mapping (now (part .entry)) .pcid ⌝ }
 {
-    let number = numbers::number2(part, 3);
+    let number = pcid_bytes(part);
     if !kinds::is_guest_physical(kind(part)) {
         number
     } else {
@@ -129,17 +129,15 @@ fn global(part: &[u8]) -> u64
     }
 }
 
-// The EP4TA of the record at the front; 0 where its kind has none.
+// The EP4TA of the record at the front; 0 where its kind has none. The bytes are read in any case, so that no branch is
+// taken on the kind.
 pub fn ep4ta(part: &[u8]) -> u64
     requires { ⌜ Held (now part) ⌝ }
     ensures { λ r. ⌜ r ≡ mapping (now (part .entry)) .ep4ta ⌝ }
 {
     let place = kinds::place_of_ep4ta(kind(part));
-    if place == 0 {
-        0
-    } else {
-        numbers::number5(part, place)
-    }
+    let number = numbers::number5(part, place);
+    if place == 0 { 0 } else { number }
 }
 
 // The record at the front is a global translation: its kind carries a global mark, and the mark is 1.

@@ -218,15 +218,15 @@ pub fn first_failed(q: Query, part: &[u8]) -> Reason
     Reason::InScope
 }
 
-// The record passes the further tests.
+// The record passes the further tests. Where one EP4TA is asked for, most records fail that test: so it comes first.
 fn is_passing_further(q: Query, part: &[u8]) -> bool
     requires { ⌜ Held (now part) ⌝ }
     ensures { λ r. ⌜ r ≡ further-passed q (mapping (now (part .entry))) ⌝ }
 {
-    if !is_of_pcid(q, part) {
+    if !is_of_ep4ta(q, part) {
         return false;
     }
-    if !is_of_ep4ta(q, part) {
+    if !is_of_pcid(q, part) {
         return false;
     }
     if !is_at_page(q, part) {

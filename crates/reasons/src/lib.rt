@@ -6,14 +6,6 @@ use model::Reason;
 ghost use mathlib.Core.Path.{_≡_};
 ghost use Rattle.model.specs.Reasons.{one-record, explanation, reason-number, explanation-number, explanation-answer, explanation-rule};
 
-// The bytes are exactly one valid record of the linear width.
-fn is_one_record(width: u64, bytes: &[u8]) -> bool
-    ensures { λ r. ⌜ r ≡ one-record width (now (bytes .entry)) ⌝ }
-{
-    let judged = tables::judge(width, bytes);
-    (judged.answer == 0) & (judged.records == 1)
-}
-
 // Why the event drops the record in the bytes or leaves it, judged in the context. The step's refusal goes
 // first; bytes that are not exactly one valid record are refused with 3.
 pub fn explain(c: Context, bytes: &[u8], event: &[u8]) -> Explanation
@@ -22,7 +14,7 @@ pub fn explain(c: Context, bytes: &[u8], event: &[u8]) -> Explanation
     if !contexts::is_in_range(c) {
         return Explanation::Refused(1, 0);
     }
-    if !is_one_record(c.linear_width, bytes) {
+    if !tables::is_one_record(c.linear_width, bytes) {
         return Explanation::Refused(3, 0);
     }
     let EventReading::Read(e) = events::read_event(c.linear_width, event) else {

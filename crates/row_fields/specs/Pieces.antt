@@ -26,8 +26,8 @@ places-of m = places-at (m .kind) m
 abbrev pub last-of : Mapping → List ℕ
 last-of m = last-at (m .kind) m
 
--- What is written of it, in numbers that overlap: eight bytes of kind and tags, eight of span and page, five of the frame,
--- and the last five. The numbers of the mapping are such that they hold them.
+-- What is written of it, in numbers of one byte or eight that overlap: kind, tags, span, page, frame, and the last five
+-- bytes with three zeros behind them. The numbers of the mapping are such that they hold them.
 pub record Small (m : Mapping) : Type 0 where
   pub kind : m .kind < 256
   pub vpid : m .vpid < 65536
@@ -40,12 +40,6 @@ pub record Small (m : Mapping) : Type 0 where
 
 abbrev pub tags-number : Mapping → ℕ
 tags-number m = cond (guest-physical (m .kind)) (m .ep4ta) (m .vpid + 65536 * m .pcid + 4294967296 * m .global)
-
-abbrev pub first-word : Mapping → ℕ
-first-word m = m .kind + 256 * tags-number m
-
-abbrev pub second-word : Mapping → ℕ
-second-word m = m .span + 256 * m .page
 
 abbrev pub last-number : Mapping → ℕ
 last-number m = cond (combined (m .kind)) (m .ep4ta) (m .frame)

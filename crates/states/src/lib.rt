@@ -77,7 +77,7 @@ fn exchange(state: State, e: Event, raw: &[u8], front: &[u8], back: &mut [u8]) -
     let table = &front[..state.length];
     let mut cells = [0u16; 1];
     let mut pcids = [0u16; 1];
-    let step = steps::perform(
+    let performed = steps::perform(
         context,
         e,
         table,
@@ -88,16 +88,15 @@ fn exchange(state: State, e: Event, raw: &[u8], front: &[u8], back: &mut [u8]) -
         &mut pcids,
         back,
     );
-    let after = step.context;
     Applied {
         state: State {
-            context: after,
-            length: step.length,
-            records: (state.records - step.dropped) + creations::created_records(raw),
+            context: next_contexts::next_context(context, e),
+            length: performed.length,
+            records: (state.records - performed.dropped) + creations::created_records(raw),
             first: !state.first,
         },
         answer: 0,
-        dropped: step.dropped,
+        dropped: performed.dropped,
     }
 }
 

@@ -1,2 +1,3 @@
--- The laws of the records after a step.
+-- The laws of the records after a step, and of what an accepted one reports.
 pub mod Counts
+pub mod Acceptances

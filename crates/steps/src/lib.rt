@@ -11,9 +11,10 @@ ghost use Rattle.model.specs.Buffers.{put};
 ghost use Rattle.model.specs.Tables.{records};
 ghost use Rattle.model.specs.Events.{event};
 ghost use Rattle.model.specs.Answers.{first, valid-here, table-grounds, created, answer, rule-with};
-ghost use Rattle.model.specs.Steps.{new-table, accepted-step, refusal, stepped, written};
+ghost use Rattle.model.specs.Steps.{new-table, dropped-count, refusal, stepped, written};
 ghost use Rattle.tallies.specs.Tallies.{Tallied, Carries};
 ghost use Rattle.steps.specs.Counts.{records-after};
+ghost use Rattle.steps.specs.Acceptances.{acceptance};
 
 // What a refused step reports.
 fn refused(answer: u64, rule: u64, context: Context) -> Step
@@ -28,8 +29,15 @@ fn refused(answer: u64, rule: u64, context: Context) -> Step
     }
 }
 
+// How long a new table is, and how many records were dropped.
+pub struct Performed {
+    pub length: usize,
+    pub dropped: usize,
+}
+
 // Writes the new table of an accepted event: the records out of scope, and a creation at the end. How many records the
-// table has is known; where they are counted, those of the new table are after it.
+// table has is known; where they are counted, those of the new table are after it. The context after the event is left
+// to the caller, since it would be copied on its way.
 pub fn perform(
     c: Context,
     e: Event,
@@ -40,26 +48,36 @@ pub fn perform(
     cells: &mut [u16],
     pcids: &mut [u16],
     new: &mut [u8],
-) -> Step
+) -> Performed
     requires { ⌜ first (table-grounds c (now table)) ≡ 0 ⌝ }
     requires { ⌜ valid-here c (now raw) ≡ true ⌝ }
     requires { ⌜ e ≡ event (now raw) ⌝ }
     requires { ⌜ count ≡ length (records (now table)) ⌝ }
     requires { ⌜ length (now table) + length (created (now raw)) ≤ length (now new) ⌝ }
     requires { ⌜ (counting ≡ true → Tallied (records (now table)) (now cells) (now pcids)) ⌝ }
-    ensures { λ r. ⌜ r ≡ accepted-step c (now (table .entry)) (now (raw .entry)) ⌝ }
+    ensures { λ r. ⌜ (r .length ≡ length (new-table c (now (table .entry)) (now (raw .entry)))) × (r .dropped ≡ dropped-count c (now (table .entry)) (now (raw .entry))) ⌝ }
     ensures { λ _. ⌜ now (new .exit) ≡ put 0 (new-table c (now (table .entry)) (now (raw .entry))) (now (new .entry)) ⌝ }
     ensures { λ _. ⌜ Carries counting (records (new-table c (now (table .entry)) (now (raw .entry)))) (now (cells .entry)) (now (pcids .entry)) (now (cells .exit)) (now (pcids .exit)) ⌝ }
 {
     let filtered = filters::filter_event(c, e, table, count, counting, cells, pcids, new);
     creations::count_creation(raw, counting, cells, pcids);
     let length = creations::add_creation(raw, new, filtered.length);
+    Performed {
+        length,
+        dropped: filtered.dropped,
+    }
+}
+
+// What the step of an event that was performed reports.
+pub fn accepted(c: Context, e: Event, performed: Performed) -> Step
+    ensures { λ r. ⌜ r ≡ acceptance c e (performed .length) (performed .dropped) ⌝ }
+{
     Step {
         answer: 0,
         rule: 0,
         context: next_contexts::next_context(c, e),
-        length,
-        dropped: filtered.dropped,
+        length: performed.length,
+        dropped: performed.dropped,
     }
 }
 
@@ -121,7 +139,8 @@ pub fn step_read(
     if ground.answer != 0 {
         return refused(ground.answer, ground.rule, c);
     }
-    perform(c, e, table, count, raw, counting, cells, pcids, new)
+    let performed = perform(c, e, table, count, raw, counting, cells, pcids, new);
+    accepted(c, e, performed)
 }
 
 // One event on a context and a table to which answers 1 to 3 do not apply, and whose number of records is known:

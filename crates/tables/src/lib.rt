@@ -8,7 +8,8 @@ ghost use Prim.Native.Nat.{_≤_};
 ghost use lib.ListN.{length};
 ghost use Rattle.model.specs.Tables.{limit, records};
 ghost use Rattle.model.specs.Answers.{first, valid-table, stored-grounds, table-grounds};
-ghost use Rattle.tallies.specs.Tallies.{Tallied};
+ghost use Rattle.model.specs.Reasons.{one-record};
+ghost use Rattle.tallies.specs.Tallies.{PcidCounts, Struck};
 ghost use Rattle.tables.specs.Walk.{Tells};
 ghost use Rattle.tables.specs.Judged.{judged-records};
 ghost use Rattle.tables.specs.Counts.{counted-judged, uncounted, table-counts, table-pcid-counts};
@@ -25,13 +26,13 @@ pub struct Judged {
     pub records: usize,
 }
 
-// Passes over the whole, valid records of a linear width at the front of the table, and counts them one by one where that
-// is asked for. Each record is read as the part of the table that starts at its kind byte.
+// Passes over the whole, valid records of a linear width at the front of the table. Where that is asked for, each is counted
+// by kind and span, and struck off the counts by PCID. It is read as the part of the table that starts at its kind byte.
 fn walk(width: u64, table: &[u8], counting: bool, cells: &mut [u16], pcids: &mut [u16]) -> Passed
     requires { ⌜ length (now table) ≤ limit ⌝ }
-    requires { ⌜ (counting ≡ true → Tallied [] (now cells) (now pcids)) ⌝ }
+    requires { ⌜ (counting ≡ true → Struck (now pcids) [] (now cells) (now pcids)) ⌝ }
     ensures { λ r. ⌜ Tells width (now (table .entry)) (r .bytes) (r .records) ⌝ }
-    ensures { λ _. ⌜ (counting ≡ true → valid-table width (now (table .entry)) ≡ true → Tallied (records (now (table .entry))) (now (cells .exit)) (now (pcids .exit))) ⌝ }
+    ensures { λ _. ⌜ (counting ≡ true → valid-table width (now (table .entry)) ≡ true → Struck (now (pcids .entry)) (records (now (table .entry))) (now (cells .exit)) (now (pcids .exit))) ⌝ }
 {
     let mut at = 0;
     let mut records = 0;
@@ -42,7 +43,7 @@ fn walk(width: u64, table: &[u8], counting: bool, cells: &mut [u16], pcids: &mut
             return Passed { bytes: at, records };
         }
         if counting {
-            tallies::add(part, cells, pcids);
+            tallies::strike(part, cells, pcids);
         }
         at += length;
         records += 1;
@@ -51,7 +52,7 @@ fn walk(width: u64, table: &[u8], counting: bool, cells: &mut [u16], pcids: &mut
 }
 
 // The answer that a table alone gives at a linear width: 2 or 3, else 0; and the number of records, 0 where the answer
-// is not 0. Where that is asked for, the records of an accepted table are counted.
+// is not 0. Where that is asked for, the records of an accepted table are counted and struck off.
 fn judge_with(
     width: u64,
     table: &[u8],
@@ -59,9 +60,9 @@ fn judge_with(
     cells: &mut [u16],
     pcids: &mut [u16],
 ) -> Judged
-    requires { ⌜ (counting ≡ true → Tallied [] (now cells) (now pcids)) ⌝ }
+    requires { ⌜ (counting ≡ true → Struck (now pcids) [] (now cells) (now pcids)) ⌝ }
     ensures { λ r. ⌜ (r .answer ≡ first (stored-grounds width (now (table .entry)))) × (r .records ≡ judged-records width (now (table .entry))) ⌝ }
-    ensures { λ r. ⌜ (counting ≡ true → r .answer ≡ 0 → Tallied (records (now (table .entry))) (now (cells .exit)) (now (pcids .exit))) ⌝ }
+    ensures { λ r. ⌜ (counting ≡ true → r .answer ≡ 0 → Struck (now (pcids .entry)) (records (now (table .entry))) (now (cells .exit)) (now (pcids .exit))) ⌝ }
 {
     if model::TABLE_LIMIT < table.len() {
         return Judged {
@@ -92,6 +93,14 @@ pub fn judge(width: u64, table: &[u8]) -> Judged
     judge_with(width, table, false, &mut cells, &mut pcids)
 }
 
+// The bytes are exactly one valid record of a linear width.
+pub fn is_one_record(width: u64, bytes: &[u8]) -> bool
+    ensures { λ r. ⌜ r ≡ one-record width (now (bytes .entry)) ⌝ }
+{
+    let judged = judge(width, bytes);
+    (judged.answer == 0) & (judged.records == 1)
+}
+
 // What judging a table beside a tally tells: the answer and the number of records as above, whether the tally has the
 // counts of the table, and the counts by kind and span. Where the answer is not 0 it has not, and the counts are 0.
 pub struct CountedJudged {
@@ -101,18 +110,19 @@ pub struct CountedJudged {
     pub cells: [u16; 30],
 }
 
-// Judges a table and counts its records, in one walk, and compares a tally with the counts.
-pub fn judge_counted(
+// Judges a table beside a tally, in one walk: its records are counted by kind and span, and struck off the tally's counts
+// by PCID, which are the caller's copy.
+fn judge_beside(
     width: u64,
     table: &[u8],
     kinds: [KindCounts; 6],
-    pcids: &[u16],
+    pcids: &mut [u16; 4096],
 ) -> CountedJudged
+    requires { ⌜ PcidCounts (now pcids) ⌝ }
     ensures { λ r. ⌜ r ≡ counted-judged width (now (table .entry)) kinds (now (pcids .entry)) ⌝ }
 {
     let mut cells = [0u16; 30];
-    let mut fresh = [0u16; 4096];
-    let judged = judge_with(width, table, true, &mut cells, &mut fresh);
+    let judged = judge_with(width, table, true, &mut cells, pcids);
     if judged.answer != 0 {
         return CountedJudged {
             answer: judged.answer,
@@ -124,9 +134,29 @@ pub fn judge_counted(
     CountedJudged {
         answer: 0,
         records: judged.records,
-        matching: tally_rows::is_matching(kinds, pcids, &cells, &fresh),
+        matching: tally_rows::is_matching(kinds, &cells, pcids),
         cells,
     }
+}
+
+// Judges a table and counts its records, and compares a tally with the counts. Counts by PCID that are not 4,096 match none.
+pub fn judge_counted(
+    width: u64,
+    table: &[u8],
+    kinds: [KindCounts; 6],
+    pcids: &[u16],
+) -> CountedJudged
+    ensures { λ r. ⌜ r ≡ counted-judged width (now (table .entry)) kinds (now (pcids .entry)) ⌝ }
+{
+    if pcids.len() == 4096 {
+        let mut left = [0u16; 4096];
+        tallies::copy(pcids, &mut left);
+        return judge_beside(width, table, kinds, &mut left);
+    }
+    let mut none = [0u16; 4096];
+    let mut judged = judge_beside(width, table, kinds, &mut none);
+    judged.matching = false;
+    judged
 }
 
 // A fresh count of a table: the answer, and the counts by kind and span.
@@ -152,15 +182,15 @@ pub fn count(width: u64, table: &[u8], pcids: &mut [u16]) -> TableCounts
     ensures { λ _. ⌜ now (pcids .exit) ≡ table-pcid-counts width (now (table .entry)) (now (pcids .entry)) ⌝ }
 {
     let mut cells = [0u16; 30];
-    let mut fresh = [0u16; 4096];
-    let judged = judge_with(width, table, true, &mut cells, &mut fresh);
+    let mut left = [0u16; 4096];
+    let judged = judge_with(width, table, true, &mut cells, &mut left);
     if judged.answer != 0 {
         return not_counted(judged.answer);
     }
     if pcids.len() != 4096 {
         return not_counted(13);
     }
-    tallies::copy(&fresh, pcids);
+    tallies::write_struck(&left, pcids);
     TableCounts {
         answer: 0,
         kinds: tally_rows::update(tally_rows::no_rows(), &cells),

@@ -1,6 +1,6 @@
 -- Document 02, Ask 7: "Keep a count of records for each of six kinds by four spans, and a count for each of the 4,096
 -- PCIDs over kinds 1, 3, 4 and 6". Ask 12: "Tally spans run to 4"; the new kinds are counted "in the same six rows".
-use Prim.Native.Nat.{ℕ, zero, suc, _+_, _*_, _-_, _≤_, _<_}
+use Prim.Native.Nat.{ℕ, zero, suc, _+_, _*_, _-_, _%_, _≤_, _<_}
 use mathlib.Core.Bool.{Bool, true, false, cond, not, _&&_}
 use mathlib.Core.List.{List, [], _∷_}
 use mathlib.Core.Path.{_≡_}
@@ -48,6 +48,13 @@ raised at counts = raised-by at 1 counts
 abbrev pub lowered : ℕ → List ℕ → List ℕ
 lowered at counts = lowered-by at 1 counts
 
+-- so many less than a count of 16 bits, which wraps; and so many less at a place
+unfoldable pub wrapped-less : ℕ → ℕ → ℕ
+wrapped-less a n = (a + 65535 * n) % 65536
+
+unfoldable pub struck-by : ℕ → ℕ → List ℕ → List ℕ
+struck-by at n counts = set counts at (wrapped-less (getD counts at 0) n)
+
 -- how often a record of a kind is counted by PCID
 unfoldable pub by-pcid : ℕ → ℕ
 by-pcid kind = cond (guest-physical kind) 0 1
@@ -65,6 +72,17 @@ pcids-with m pcids = cond (guest-physical (m .kind)) pcids (raised (m .pcid) pci
 unfoldable pub pcids-without : Mapping → List ℕ → List ℕ
 pcids-without m pcids = cond (guest-physical (m .kind)) pcids (lowered (m .pcid) pcids)
 
+-- the counts by PCID with one record struck off, and what is left of them when some records are
+unfoldable pub pcids-struck : Mapping → List ℕ → List ℕ
+pcids-struck m pcids = struck-by (m .pcid) (by-pcid (m .kind)) pcids
+
+unfoldable pub pcids-left : List ℕ → List (List ℕ) → List ℕ
+pcids-left pcids rs = tabulate 4096 (λ pcid. wrapped-less (getD pcids pcid 0) (count (of-pcid pcid) rs))
+
+-- how many were struck off counts that were 0, by what is left of them
+unfoldable pub struck-off : List ℕ → List ℕ
+struck-off left = tabulate (length left) (λ i. wrapped-less 0 (getD left i 0))
+
 -- the thirty counts, and those by PCID, are those of some records
 pub record Tallied (rs : List (List ℕ)) (xs ys : List ℕ) : Type 0 where
   pub cells : xs ≡ cell-counts rs
@@ -75,13 +93,28 @@ pub record Carries (counting : Bool) (rs : List (List ℕ)) (cells pcids cells�
   pub counted : counting ≡ true → Tallied rs cells′ pcids′
   pub kept : counting ≡ false → (cells′ ≡ cells) × (pcids′ ≡ pcids)
 
--- a held record can be counted: there is a place for it, and the count there is not at the end of its type
-pub record Countable (part cells pcids : List ℕ) : Type 0 where
+-- a count of 16 bits for each of the 4,096 PCIDs
+pub record PcidCounts (pcids : List ℕ) : Type 0 where
+  pub long : length pcids ≡ 4096
+  pub small : (i : ℕ) → getD pcids i 0 < 65536
+
+-- the thirty counts are those of some records, and those by PCID what these leave of others
+pub record Struck (pcids : List ℕ) (rs : List (List ℕ)) (xs ys : List ℕ) : Type 0 where
+  pub cells : xs ≡ cell-counts rs
+  pub left : ys ≡ pcids-left pcids rs
+
+-- a held record can be counted by kind and span, where the count is not at the end of its type, and struck off by PCID
+pub record Strikable (part cells pcids : List ℕ) : Type 0 where
   pub held : Held part
   pub long : length cells ≡ 30
   pub place : cell-of (mapping part) < 30
   pub few : getD cells (cell-of (mapping part)) 0 < 65535
+  pub pcids-long : length pcids ≡ 4096
   pub pcid-place : mapping part .pcid < length pcids
+
+-- it can be counted by PCID too, where the count is not at the end of its type either
+pub record Countable (part cells pcids : List ℕ) : Type 0 where
+  pub strikable : Strikable part cells pcids
   pub pcid-few : getD pcids (mapping part .pcid) 0 < 65535
 
 -- a held record is counted

@@ -5,7 +5,7 @@ ghost use Prim.Native.Nat.{_<_, _≤_, _+_, _*_};
 ghost use lib.ListN.{length, getD, replicate};
 ghost use Rattle.model.specs.Mappings.{mapping, Held};
 ghost use Rattle.model.specs.Layouts.{mapping-kind};
-ghost use Rattle.tallies.specs.Tallies.{row-of, cell-of, raised-by, lowered-by, by-pcid, cells-with, cells-without, pcids-with, pcids-without, Countable, Counted};
+ghost use Rattle.tallies.specs.Tallies.{row-of, cell-of, raised-by, lowered-by, struck-by, struck-off, by-pcid, cells-with, cells-without, pcids-with, pcids-without, pcids-struck, Strikable, Countable, Counted};
 
 // So many more at a place.
 fn raise(counts: &mut [u16], at: usize, by: u16)
@@ -25,11 +25,23 @@ fn lower(counts: &mut [u16], at: usize, by: u16)
     counts[at] = counts[at] - by;
 }
 
+// So many less at a place, wrapping at 2^16.
+fn strike_at(counts: &mut [u16], at: usize, by: u16)
+    requires { ⌜ at < length (now counts) ⌝ }
+    ensures { λ _. ⌜ now (counts .exit) ≡ struck-by at by (now (counts .entry)) ⌝ }
+{
+    counts[at] = std::num::wrapping_sub_u16(counts[at], by);
+}
+
+// The kinds of mappings that are counted by PCID, bit k for kind k: all but the guest-physical ones.
+const BY_PCID: u64 = 0x7DA;
+
 // How often a record of a kind is counted by PCID: once, and a guest-physical one not at all.
 fn times_by_pcid(kind: u64) -> u16
+    requires { ⌜ mapping-kind kind ≡ true ⌝ }
     ensures { λ r. ⌜ r ≡ by-pcid kind ⌝ }
 {
-    if kinds::is_guest_physical(kind) { 0 } else { 1 }
+    ((BY_PCID >> kind) % 2) as u16
 }
 
 // Five times the row of each kind of mapping, in five bits for each kind, from the lowest, of kind 0, on.
@@ -52,7 +64,7 @@ fn cell(part: &[u8]) -> usize
     first_cell(mappings::kind(part)) + mappings::span(part) as usize
 }
 
-// Counts the record at the front. There is no branch on the kind, which would be mispredicted on mixed tables.
+// Counts the record at the front.
 pub fn add(part: &[u8], cells: &mut [u16], pcids: &mut [u16])
     requires { ⌜ Countable (now part) (now cells) (now pcids) ⌝ }
     ensures { λ _. ⌜ now (cells .exit) ≡ cells-with (mapping (now (part .entry))) (now (cells .entry)) ⌝ }
@@ -62,6 +74,19 @@ pub fn add(part: &[u8], cells: &mut [u16], pcids: &mut [u16])
     let times = times_by_pcid(mappings::kind(part));
     raise(cells, cell(part), 1);
     raise(pcids, pcid, times);
+}
+
+// Counts the record at the front by kind and span, and strikes it off counts by PCID, which wrap at 2^16. Where its kind
+// has no PCID, none is struck off some count: nothing is picked by the kind, so that no branch on it is mispredicted.
+pub fn strike(part: &[u8], cells: &mut [u16], pcids: &mut [u16])
+    requires { ⌜ Strikable (now part) (now cells) (now pcids) ⌝ }
+    ensures { λ _. ⌜ now (cells .exit) ≡ cells-with (mapping (now (part .entry))) (now (cells .entry)) ⌝ }
+    ensures { λ _. ⌜ now (pcids .exit) ≡ pcids-struck (mapping (now (part .entry))) (now (pcids .entry)) ⌝ }
+{
+    let pcid = (mappings::pcid_bytes(part) % 4096) as usize;
+    let times = times_by_pcid(mappings::kind(part));
+    raise(cells, cell(part), 1);
+    strike_at(pcids, pcid, times);
 }
 
 // Takes the record at the front off the counts.
@@ -84,6 +109,18 @@ pub fn copy(from: &[u16], to: &mut [u16])
     let mut at = 0;
     while at < to.len() {
         to[at] = from[at];
+        at += 1;
+    }
+}
+
+// Writes how many were struck off counts that were 0, by what is left of them.
+pub fn write_struck(left: &[u16], to: &mut [u16])
+    requires { ⌜ length (now left) ≡ length (now to) ⌝ }
+    ensures { λ _. ⌜ now (to .exit) ≡ struck-off (now (left .entry)) ⌝ }
+{
+    let mut at = 0;
+    while at < left.len() {
+        to[at] = std::num::wrapping_sub_u16(0, left[at]);
         at += 1;
     }
 }

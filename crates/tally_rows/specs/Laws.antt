@@ -1,3 +1,4 @@
 -- Laws of rows.
 pub mod Compared
 pub mod Rows
+pub mod Left

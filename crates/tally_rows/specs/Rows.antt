@@ -30,6 +30,11 @@ same-kinds [] (y ∷ ys) = false
 same-kinds (x ∷ xs) [] = false
 same-kinds (x ∷ xs) (y ∷ ys) = same (x .spans) (y .spans) && same-kinds xs ys
 
+-- no count is left
+unfoldable pub none-left : List ℕ → Bool
+none-left [] = true
+none-left (x ∷ xs) = eqb x 0 && none-left xs
+
 -- a tally matches some records: every count is theirs, the impossible ones too, and there are 4,096 PCIDs
 unfoldable pub matching : List KindCounts → List ℕ → List (List ℕ) → Bool
 matching kinds pcids rs = same-kinds kinds (kind-counts rs) && same pcids (pcid-counts rs)

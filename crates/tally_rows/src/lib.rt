@@ -4,7 +4,7 @@ ghost use mathlib.Core.Bool.{_&&_};
 ghost use mathlib.Core.List.{[]};
 ghost use Prim.Native.Nat.{_≤_, _+_};
 ghost use lib.ListN.{length};
-ghost use Rattle.tally_rows.specs.Rows.{kind-counts, same, same-kinds, row-from, rows-of};
+ghost use Rattle.tally_rows.specs.Rows.{kind-counts, same, same-kinds, none-left, row-from, rows-of};
 
 // The records of one of the six kinds, by span, 0 to 4.
 #[repr(C)]
@@ -12,20 +12,17 @@ pub struct KindCounts {
     pub spans: [u16; 5],
 }
 
-// Two lists of counts are the same. Every count is looked at: a loop without a way out takes many at a time.
-fn is_same(a: &[u16], b: &[u16]) -> bool
-    ensures { λ r. ⌜ r ≡ same (now (a .entry)) (now (b .entry)) ⌝ }
+// No count is left. All are looked at: a loop without a way out takes many at a time.
+fn is_none_left(left: &[u16]) -> bool
+    ensures { λ r. ⌜ r ≡ none-left (now (left .entry)) ⌝ }
 {
-    if a.len() != b.len() {
-        return false;
-    }
-    let mut all = true;
+    let mut all = 0u16;
     let mut at = 0;
-    while at < a.len() {
-        all = all & (a[at] == b[at]);
+    while at < left.len() {
+        all = all | left[at];
         at += 1;
     }
-    all
+    all == 0
 }
 
 // The five counts from a place on, as a row.
@@ -90,10 +87,10 @@ fn is_rows(kinds: [KindCounts; 6], cells: &[u16]) -> bool
                     & (is_row(kinds[4], cells, 20) & is_row(kinds[5], cells, 25)))))
 }
 
-// A tally has the counts: by kind and span, and by PCID.
-pub fn is_matching(kinds: [KindCounts; 6], pcids: &[u16], cells: &[u16], fresh: &[u16]) -> bool
+// The six rows have the thirty counts, and of the counts by PCID none is left.
+pub fn is_matching(kinds: [KindCounts; 6], cells: &[u16], left: &[u16]) -> bool
     requires { ⌜ length (now cells) ≡ 30 ⌝ }
-    ensures { λ r. ⌜ r ≡ (same-kinds kinds (rows-of (now (cells .entry))) && same (now (pcids .entry)) (now (fresh .entry))) ⌝ }
+    ensures { λ r. ⌜ r ≡ (same-kinds kinds (rows-of (now (cells .entry))) && none-left (now (left .entry))) ⌝ }
 {
-    is_rows(kinds, cells) & is_same(pcids, fresh)
+    is_rows(kinds, cells) & is_none_left(left)
 }

@@ -1,3 +1,3 @@
-pub mod Ranges
+pub mod Masks
 pub mod Lengths
 pub mod Laws

@@ -1,33 +1,36 @@
--- Each arm is the definition's row for its event; a creation's bytes hold a record of its kind.
-use mathlib.Core.Path.{sym, _∙_}
+-- Each arm is the definition's row for its event; a creation's bytes are judged as those of one record.
+use Prim.Native.Nat.{ℕ}
+use mathlib.Core.Bool.{true, and-true}
+use mathlib.Core.List.{List}
+use mathlib.Core.Path.{_≡_, sym, _∙_}
 use native.Mathlib.Omega.{arith}
 use borrow.Author.Needs.{needs}
-use denote.Ref.{now}
-use Rattle.model.specs.Mappings.{Held}
+use borrow.Author.Tests.{le-leb, eq-eqb}
+use lib.Dec.{eqb, leb}
+use lib.ListN.{length}
+use Rattle.model.specs.declared.Event.the-variants.{Creation}
+use Rattle.model.specs.Layouts.{kind-of, mapping-kind, length-of}
+use Rattle.model.specs.Mappings.{mapping, starts-record}
 use Rattle.model.specs.Events.{event-in-range}
+use Rattle.model.specs.Reasons.{one-record}
 use Rattle.laws.specs.Events.{event-creation, event-creation-kind}
 use Rattle.events.proofs.is_in_range.Statement.{statement}
 use Rattle.events.proofs.is_in_range.Tie as tie
 
-held : (c : tie.After-enum-told) → Held (now (c .before .before .before .args .e))
-held c =
-    let entry = c .before .before .before in
-    record {
-      known = event-creation-kind _ _ (sym (entry .pre .1) ∙ c .enum-told .given .1);
-      fits = omega (arith, entry .pre .0);
-    }
+-- bytes of a creation's length are exactly one valid record where its fields are in their ranges and it is of the width
+one-record-exact : (w : ℕ) (e : List ℕ) → mapping-kind (kind-of e) ≡ true → length e ≡ length-of (kind-of e)
+    → one-record w e ≡ event-in-range w (Creation (mapping e))
+unfolding one-record starts-record event-in-range mapping
+one-record-exact w e known exact =
+    let fits : leb (length-of (kind-of e)) (length e) ≡ true = le-leb (length-of (kind-of e)) (length e) (omega (arith, exact)) in
+    let same : eqb (length e) (length-of (kind-of e)) ≡ true = eq-eqb (length e) (length-of (kind-of e)) exact in
+    rw (known, fits, same, and-true)
 
 returns : tie.Need-returns
-unfolding event-in-range
 returns c =
-    let entry = c .before .before .before .before .before .before in
-    rw (
-      entry .pre .1,
-      event-creation _ (held (c .before .before .before) .known),
-      c .before .before .is-in-ranges .ensures,
-      c .is-of-other-width .ensures,
-      c .before .kind .ensures,
-    )
+    let s = c .before .before .before .before in
+    let known = event-creation-kind _ _ (sym (s .pre .1) ∙ c .before .enum-told .given .1) in
+    c .is-one-record .ensures ∙ one-record-exact _ _ known (s .pre .0) ∙ rw (s .pre .1, event-creation _ known)
 
 returns-2 : tie.Need-returns-2
 unfolding event-in-range
@@ -82,8 +85,6 @@ is-in-range-spec =
     tie.close
     (tie.spec
     (λ c. search needs)
-    (λ c κs. held c)
-    (λ c κs. held (c .before))
     (λ c κs. search needs)
     (λ c. search needs)
     (λ c κs. search needs)

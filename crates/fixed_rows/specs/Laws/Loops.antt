@@ -2,21 +2,23 @@
 -- records that rows name.
 use Prim.Native.Nat.{ℕ, zero, _+_, _-_, _/_, _%_, _≤_, _<_}
 use mathlib.Core.Bool.{true, cond}
-use mathlib.Core.List.{List, [], _∷_, _++_, map}
+use mathlib.Core.List.{List, [], _∷_, _++_, map, append-assoc, append-nil}
 use mathlib.Core.Path.{_≡_, refl, sym, ap, _∙_}
 use native.Mathlib.Omega.{arith}
 use lib.ListN.{length, take, drop, length-append, length-drop}
-use lib.Seq.{length-take-le}
+use lib.Seq.{length-take-le, take-at}
+use Rattle.model.specs.Bits.{bytes}
 use Rattle.model.specs.Buffers.{put}
 use Rattle.model.specs.Layouts.{kind-of, length-of}
 use Rattle.model.specs.Mappings.{mapping, Held}
 use Rattle.model.specs.Tables.{joined, records, whole}
 use Rattle.laws.specs.Lists.{Every, every-head, every-tail}
-use Rattle.laws.specs.Buffers.{put-put, length-put, put-nil}
+use Rattle.laws.specs.Buffers.{length-put, length-bytes, put-nil, put-split}
 use Rattle.laws.specs.Mappings.{kind-of-take}
 use Rattle.laws.specs.Tables.{Next, whole-rest, records-drop-end}
 use Rattle.row_fields.specs.Rows.{Column, column, row-of, good-row, named-length}
 use Rattle.row_fields.specs.Laws.Rows.{length-row}
+use Rattle.row_fields.specs.Laws.Overlaps.{put-over, within}
 use Rattle.fixed_rows.specs.FixedRows.{exported, rows-in, first-bad-from, first-bad, record-named, imported}
 use Rattle.fixed_rows.specs.Laws.Rows.{Fitting, Named, length-record-named, rows-next, rows-end, imported-from, imported-from-start, imported-from-next, imported-from-end, named-some, named-none, length-named, length-named-le}
 
@@ -32,21 +34,29 @@ progress-start all buffer is room =
     record { long = refl; size = omega (arith, ap length is); room = room; bytes = ap (λ (xs : List ℕ). put 0 xs buffer) is }
 
 module _ {all rest buffer : List ℕ} {to : ℕ} {new : List ℕ} (s : Progress all rest buffer to new) (piece others : List ℕ) (split : rest ≡ piece ++ others) where
-  -- there is room for the next piece
-  pub progress-room : to + length piece ≤ length new
+  -- there is room for the next piece, and for those behind it
+  pub progress-room : to + length piece + length others ≤ length new
   progress-room = omega (arith, s .size, s .room, ap length split, length-append piece others)
 
-  pub progress-turn : {to′ : ℕ} {new′ : List ℕ} → to′ ≡ to + length piece → new′ ≡ put to piece new → Progress all others buffer to′ new′
-  progress-turn {to′} {new′} is made =
-      let long : length new′ ≡ length new = ap length made ∙ length-put to piece new progress-room in
+  -- what is written too much behind it, those behind it will write over
+  pub progress-over : (pad : List ℕ) → length pad ≤ length others → {to′ : ℕ} {new′ : List ℕ} → to′ ≡ to + length piece → new′ ≡ put to (piece ++ pad) new
+      → Progress all others buffer to′ new′
+  progress-over pad covered {to′} {new′} is made =
+      let size = length-append piece pad in
+      let long : length new′ ≡ length new = ap length made ∙ length-put to (piece ++ pad) new (omega (arith, progress-room, size)) in
       let behind : put to′ others new′ ≡ put to (piece ++ others) new =
-      rw (is, made) (put-put to piece others new (omega (arith, progress-room))) in
+      rw (is, made)
+      (put-over to (length piece) (piece ++ pad) others new (omega (arith, progress-room)) (omega (arith, size)) (omega (arith, size))
+      ∙ ap (λ (xs : List ℕ). put to (xs ++ others) new) (take-at piece pad (length piece) refl)) in
       record {
         long = long ∙ s .long;
         size = omega (arith, s .size, is, ap length split, length-append piece others);
         room = omega (arith, s .room, long);
         bytes = behind ∙ rw (← split) (s .bytes);
       }
+
+  pub progress-turn : {to′ : ℕ} {new′ : List ℕ} → to′ ≡ to + length piece → new′ ≡ put to piece new → Progress all others buffer to′ new′
+  progress-turn is made = progress-over [] (omega arith) is (made ∙ rw append-nil)
 
 pub progress-end : {all rest buffer : List ℕ} {to : ℕ} {new : List ℕ} → Progress all rest buffer to new → rest ≡ [] → new ≡ put 0 all buffer
 progress-end {to = to} {new} s done = sym (put-nil to new) ∙ rw done at (s .bytes)
@@ -190,20 +200,50 @@ module _ {b buffer : List ℕ} {at to : ℕ} {new : List ℕ} (s : Importing b b
   pub importing-fitting : Fitting (take 32 (drop at b))
   importing-fitting = every-head those
 
-  pub importing-room : to + length-of (column Column.kind (take 32 (drop at b))) ≤ length new
+  pub importing-room : to + length (record-named (take 32 (drop at b))) ≤ length new
   importing-room =
-      let r = take 32 (drop at b) in
-      omega (arith, length-record-named r, progress-room (s .wrote) (record-named r) (imported-from b (at + 32)) (imported-from-next b at (at-fits (s .place) before)))
+      omega (arith, progress-room (s .wrote) (record-named (take 32 (drop at b))) (imported-from b (at + 32)) (imported-from-next b at (at-fits (s .place) before)))
 
-  pub importing-turn : {to′ : ℕ} {new′ : List ℕ} → to′ ≡ to + length-of (column Column.kind (take 32 (drop at b))) → new′ ≡ put to (record-named (take 32 (drop at b))) new
+  -- the last record, of which nothing is written too much
+  pub importing-last : at + 32 ≡ length b → {new′ : List ℕ} → new′ ≡ put to (record-named (take 32 (drop at b))) new → new′ ≡ put 0 (imported b) buffer
+  importing-last last made =
+      progress-end
+      (progress-turn (s .wrote) (record-named (take 32 (drop at b))) (imported-from b (at + 32)) (imported-from-next b at (at-fits (s .place) before)) refl made)
+      (imported-from-end b (at + 32) (omega (arith, last)))
+
+-- another row stands behind the one at the position: its record covers three bytes
+module _ {b buffer : List ℕ} {at to : ℕ} {new : List ℕ} (s : Importing b buffer at to new) (more : at + 32 < length b) where
+  before : at < length b
+  before = omega arith
+
+  split-at : imported-from b at ≡ record-named (take 32 (drop at b)) ++ imported-from b (at + 32)
+  split-at = imported-from-next b at (at-fits (s .place) before)
+
+  covered : 3 ≤ length (imported-from b (at + 32))
+  covered =
+      let next : at + 32 + 32 ≤ length b = at-fits (at-next (s .place) before) more in
+      let r = take 32 (drop (at + 32) b) in
+      let row = every-head (rw (rows-next b (at + 32) next) at (every-tail (those s before))) in
+      omega (arith, ap length (imported-from-next b (at + 32) next), length-append (record-named r) (imported-from b (at + 32 + 32)), length-record-named r, within (column Column.kind r) (row .known) .frame)
+
+  pub importing-room-over : to + length-of (column Column.kind (take 32 (drop at b))) + 3 ≤ length new
+  importing-room-over =
+      let r = take 32 (drop at b) in
+      omega (arith, length-record-named r, covered, progress-room (s .wrote) (record-named r) (imported-from b (at + 32)) split-at)
+
+  pub importing-turn : {to′ : ℕ} {new′ : List ℕ} → to′ ≡ to + length-of (column Column.kind (take 32 (drop at b))) → new′ ≡ put to (record-named (take 32 (drop at b)) ++ bytes 3 0) new
       → Importing b buffer (at + 32) to′ new′
   importing-turn is made =
+      let r = take 32 (drop at b) in
       record {
         place = at-next (s .place) before;
-        fitting = every-tail those;
-        wrote =
-            progress-turn (s .wrote) (record-named (take 32 (drop at b))) (imported-from b (at + 32)) (imported-from-next b at (at-fits (s .place) before)) (is ∙ rw (length-record-named (take 32 (drop at b)))) made;
+        fitting = every-tail (those s before);
+        wrote = progress-over (s .wrote) (record-named r) (imported-from b (at + 32)) split-at (bytes 3 0) (omega (arith, length-bytes 3 0, covered)) (is ∙ rw (length-record-named r)) made;
       }
 
 pub importing-end : {b buffer : List ℕ} {at to : ℕ} {new : List ℕ} → Importing b buffer at to new → length b ≤ at → new ≡ put 0 (imported b) buffer
 importing-end {b} {at = at} s done = progress-end (s .wrote) (imported-from-end b at done)
+
+-- bytes that are put with others behind them, cut out again
+pub put-cut : (n : ℕ) (xs pad b : List ℕ) → n ≡ length xs → take n (put 0 (xs ++ pad) b) ≡ xs
+put-cut n xs pad b is = rw (put-split 0 (xs ++ pad) b, append-assoc) (take-at xs (pad ++ drop (length (xs ++ pad)) b) n (sym is))

@@ -1,15 +1,11 @@
 -- The numbers in code are the definitions' if a test computed over them says so.
-use Prim.Native.Nat.{ℕ, _+_, _*_, _≤_, _<_}
-use mathlib.Core.Path.{_≡_, refl, sym, subst}
+use Prim.Native.Nat.{ℕ, _+_, _≤_, _<_}
+use mathlib.Core.Path.{_≡_, refl, subst}
 use mathlib.Core.Bool.{Bool, true, false, cond, not, _&&_, false≢true}
-use native.Mathlib.Omega.{arith}
 use borrow.Author.Tests.{eqb-true, le-leb, lt-ltb}
 use lib.Dec.{eqb, leb, ltb}
-use Rattle.model.specs.Bits.{bit}
 use Rattle.model.specs.Layouts.{mapping-bodies, mapping-kind, event-kind, length-of}
-use Rattle.model.specs.Mappings.{span-in-range}
-use Rattle.laws.specs.Layouts.{at-rows, of-mapping-kind, of-event-kind, below, below-at, agrees, agrees-true}
-use Rattle.laws.specs.Mappings.{span-in-range-le}
+use Rattle.laws.specs.Layouts.{at-rows, of-mapping-kind, of-event-kind, below, below-at}
 use Rattle.kinds.specs.Places.{number-at}
 
 -- they are numbers of the kinds of mappings: any that are worked out of a kind, and those at its place
@@ -47,19 +43,3 @@ length-from-12 k from to =
 pub length-from-28 : (k : ℕ) → 28 ≤ k → 0 ≡ length-or-none k
 length-from-28 k from =
     length-of-unknown (λ k. leb 28 k) (of-event-kind (λ k. not (leb 28 k)) refl) k (le-leb 28 k from)
-
--- the sets are the spans of the kinds of mappings
-abbrev pub spans-told : ℕ → ℕ → ℕ → Bool
-spans-told spans s k = agrees (bit (5 * k + s) spans) (span-in-range k s)
-
-pub spans-of-mappings : (spans : ℕ) → below (λ s. at-rows (spans-told spans s) mapping-bodies) 5 ≡ true
-    → (k s : ℕ) → mapping-kind k ≡ true → s < 5 → bit (5 * k + s) spans ≡ span-in-range k s
-spans-of-mappings spans all k s known within =
-    agrees-true _ _ (of-mapping-kind (spans-told spans s) (below-at (λ s. at-rows (spans-told spans s) mapping-bodies) 5 all s within) k known)
-
-pub span-above : (k s : ℕ) → 4 < s → span-in-range k s ≡ false
-span-above k s above = go (span-in-range k s) refl
-  where
-    go : (b : Bool) → span-in-range k s ≡ b → b ≡ false
-    go false e = refl
-    go true e = absurd (omega (arith, span-in-range-le k s e))

@@ -18,16 +18,16 @@ said : (c : tie.After-place-of-ep4ta) → c .place-of-ep4ta .result ≡ place-of
 unfolding mapping
 said c = rw (c .before .kind .ensures) at (c .place-of-ep4ta .ensures)
 
-returns : tie.Need-returns
-returns c = ep4ta-none _ (c .before .before .before .before .pre) (sym (said (c .before)) ∙ c .if1 .taken)
-
 number5-requires : tie.Need-number5-requires
-number5-requires c κs = rw (said (c .before)) (ep4ta-fits _ (c .before .before .before .before .pre))
+number5-requires c κs = rw (said c) (ep4ta-fits _ (c .before .before .before .pre))
+
+returns : tie.Need-returns
+returns c = let place = c .before .before in ep4ta-none _ (place .before .before .before .pre) (sym (said place) ∙ c .if1 .taken)
 
 returns-2 : tie.Need-returns-2
 returns-2 c =
-    let c1 = c .before .before in
-    rw (said c1) at (c .number5 .ensures .0) ∙ ep4ta-some _ (c1 .before .before .before .pre) (λ none. c .before .if1 .left (said c1 ∙ none))
+    let place = c .before .before in
+    rw (said place) at (c .before .number5 .ensures .0) ∙ ep4ta-some _ (place .before .before .before .pre) (λ none. c .if1 .left (said place ∙ none))
 
 pub ep4ta-spec : {M : Type 1} → statement M
 ep4ta-spec = tie.close (tie.spec (λ c κs. search needs) place-of-ep4ta-requires number5-requires returns returns-2)

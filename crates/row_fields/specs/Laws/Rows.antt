@@ -1,14 +1,14 @@
 -- Good rows: which tests say that a row is good, and what it is then.
 use Prim.Native.Nat.{ℕ}
-use mathlib.Core.Bool.{Bool, true, false, cond, not, _&&_, and-true, and-false, and-eq-true-iff}
+use mathlib.Core.Bool.{Bool, true, false, cond, not, _&&_, and-false, and-eq-true-iff}
 use mathlib.Core.List.{List}
 use mathlib.Core.Path.{_≡_, refl, sym, ap, _∙_}
 use borrow.Author.Tests.{eqb-true}
-use lib.Dec.{eqb, leb, ltb}
+use lib.Dec.{eqb, ltb}
 use lib.ListN.{length}
 use Rattle.model.specs.declared.Mapping.{Mapping}
 use Rattle.model.specs.Layouts.{mapping-kind, length-of}
-use Rattle.model.specs.Mappings.{guest-physical, linear, wide, global-marked, other-width, span-in-range, page-in-range, fields-in-range, starts-record}
+use Rattle.model.specs.Mappings.{guest-physical, linear, wide, global-marked, other-width, fields-in-range, starts-record}
 use Rattle.laws.specs.Mappings.{Valid, valid-made}
 use Rattle.laws.specs.Answers.{OfWidth}
 use Rattle.row_fields.specs.Rows.{Column, columns, cell, row, column, named, record-of, fits, good-row, named-length}
@@ -30,11 +30,9 @@ fits-bounds m known =
     let k = m .kind in
     rw (bound-vpid k known, bound-pcid k known, bound-global k known, bound-span k known, bound-page k known, bound-frame k known, bound-ep4ta k known)
 
--- the fields are in their ranges where the span is in its range: by the other tests
-pub ranges-with-span : (m : Mapping) → span-in-range (m .kind) (m .span) ≡ true
-    → (leb (m .global) 1 && leb (m .pcid) 4095 && page-in-range (m .kind) (m .span) (m .page)) ≡ fields-in-range m
-unfolding fields-in-range
-ranges-with-span m on = rw (on, and-true)
+-- what is asked of a row besides its kind: the zero byte, the numbers' sizes and their ranges
+abbrev pub rest-good : List ℕ → Bool
+rest-good r = eqb (column Column.zero-byte r) 0 && fits (named r) && fields-in-range (named r)
 
 module _ (width : ℕ) (r : List ℕ) where
   -- a kind that is unknown or of the other width
@@ -42,9 +40,9 @@ module _ (width : ℕ) (r : List ℕ) where
   unfolding good-row
   bad-kind off = rw off
 
-  -- a kind of the width: the zero byte, the numbers' sizes and their ranges decide
+  -- a kind of the width: the rest decides
   pub good-by-ranges : (mapping-kind (column Column.kind r) && not (other-width width (column Column.kind r))) ≡ true
-      → good-row width r ≡ (eqb (column Column.zero-byte r) 0 && fits (named r) && fields-in-range (named r))
+      → good-row width r ≡ rest-good r
   unfolding good-row named
   good-by-ranges own = rw own (go (fits (named r)) refl)
     where

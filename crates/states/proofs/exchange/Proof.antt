@@ -1,12 +1,11 @@
 -- The table that is held is performed on as it is, with its number of records; nothing is counted.
 use borrow.Author.Needs.{needs}
 use mathlib.Core.Bool.{false≢true}
-use mathlib.Core.Path.{_≡_, refl, sym, ap, _∙_}
+use mathlib.Core.Path.{_≡_, sym}
 use native.Mathlib.Omega.{arith}
 use denote.Ref.{now}
 use lib.ListN.{take}
-use Rattle.model.specs.declared.Step.{Step}
-use Rattle.model.specs.Steps.{dropped-count, accepted-step}
+use Rattle.model.specs.Steps.{dropped-count}
 use Rattle.laws.specs.Steps.{length-creation}
 use Rattle.states.specs.Outcomes.{exchanged}
 use Rattle.states.specs.Laws.States.{length-table, few-records, dropped-few, holds-judged}
@@ -28,8 +27,7 @@ perform-requires c κs =
 
 -- how many records are dropped
 dropped : (c : tie.After-perform) → c .perform .result .dropped ≡ dropped-count (c .before .before .before .before .before .before .before .before .before .args .state .context) (take (c .before .before .before .before .before .before .before .before .before .args .state .length) (now (c .before .before .before .before .before .before .before .before .before .args .front))) (now (c .before .before .before .before .before .before .before .before .before .args .raw))
-unfolding accepted-step
-dropped c = ap (λ (r : Step). r .dropped) (c .perform .ensures .0)
+dropped c = c .perform .ensures .0 .1
 
 sub-dropped : tie.Need-sub-t19
 sub-dropped c =
@@ -42,10 +40,11 @@ add-records c =
     record { fits = omega (arith, few-records (s .args .state) (now (s .args .front)) (now (s .args .back)) (s .pre .0), c .created-records .ensures, length-creation (now (s .args .raw))) }
 
 returns : tie.Need-returns
-unfolding exchanged accepted-step
+unfolding exchanged
 returns c =
     let perform = c .before .before .before .before .before .before .before .before .before .perform .ensures in
-    (rw (perform .0, c .before .created-records .ensures), perform .1 .0)
+    let read = c .before .before .before .before .before .before .before .before .before .before .before .before .before .before .before .before .before .before .pre .1 .1 .1 .0 in
+    (rw (perform .0 .0, perform .0 .1, c .before .before .before .before .next-context .ensures, read, c .before .created-records .ensures), perform .1 .0)
 
 pub exchange-spec : {M : Type 1} → statement M
 exchange-spec =
@@ -55,6 +54,7 @@ exchange-spec =
     (λ c. search needs)
     (λ c. search needs)
     perform-requires
+    (λ c κs. search needs)
     sub-dropped
     (λ c κs. search needs)
     add-records

@@ -1,15 +1,15 @@
 -- The filtered records and then the creation are the new table; the bytes behind it stay.
 use borrow.Author.Needs.{needs}
 use mathlib.Core.List.{_++_}
-use mathlib.Core.Path.{_≡_, refl, sym, ap, _∙_}
+use mathlib.Core.Path.{_≡_, sym, _∙_}
 use native.Mathlib.Omega.{arith}
 use denote.Ref.{now}
 use lib.ListN.{length, length-append}
 use Rattle.model.specs.Answers.{created}
-use Rattle.model.specs.Scopes.{scope, next-context}
+use Rattle.model.specs.Scopes.{scope}
 use Rattle.model.specs.Steps.{new-table}
 use Rattle.laws.specs.Buffers.{put-put-front}
-use Rattle.laws.specs.Steps.{accepted-step-is, judged-whole, judged-short}
+use Rattle.laws.specs.Steps.{judged-whole, judged-short}
 use Rattle.filters.specs.Filters.{filtered}
 use Rattle.filters.specs.Laws.Filters.{length-filtered, new-table-filtered, dropped-count-scoped}
 use Rattle.creations.specs.Laws.Counts.{kept, creation-countable, tallied-new-table}
@@ -48,16 +48,14 @@ size c =
 
 returns : tie.Need-returns
 returns c =
-    let s = c .before .before .before .before .before .before .before .before .before .before .before .before .before .before .before .before .before .before .before .before .before .before .before .before .before .before .before in
+    let s = c .before .before .before .before .before .before .before .before .before .before .before .before .before .before .before .before .before .before .before .before .before .before .before .before .before .before in
     let a = s .args in
     let read = s .pre .1 .1 .0 in
-    let filter = c .before .before .before .before .before .before .before .before .before .before .before .before .before .before .before .before .before .before .filter-event .ensures in
-    let context = c .next-context .ensures ∙ ap (next-context (a .c)) read in
-    let dropped = filter .0 .dropped ∙ sym (dropped-count-scoped (a .c) (now (a .table)) (now (a .raw)) read) in
-    let count = c .before .before .before .before .before .before .before .before .before .count-creation .ensures in (
-      accepted-step-is (a .c) (now (a .table)) (now (a .raw)) refl refl context (size (c .before .before .before)) dropped,
+    let filter = c .before .before .before .before .before .before .before .before .before .before .before .before .before .before .before .before .before .filter-event .ensures in
+    let count = c .before .before .before .before .before .before .before .before .count-creation .ensures in (
+      (size (c .before .before), filter .0 .dropped ∙ sym (dropped-count-scoped (a .c) (now (a .table)) (now (a .raw)) read)),
       (
-        rw (c .before .before .before .add-creation .ensures .1, filter .0 .size, filter .0 .buffer, put-put-front, parts (c .before .before .before)),
+        rw (c .before .before .add-creation .ensures .1, filter .0 .size, filter .0 .buffer, put-put-front, parts (c .before .before)),
         record {
           counted = λ on. rw (rw on at (count .0), rw on at (count .1)) (tallied-new-table (a .c) _ _ (s .pre .1 .0) (rw read at (filter .1 .counted on)));
           kept = λ off. let same = filter .1 .kept off in (rw off at (count .0) ∙ same .0, rw off at (count .1) ∙ same .1);
@@ -72,7 +70,6 @@ perform-spec =
     filter-event-requires
     count-creation-requires
     add-creation-requires
-    (λ c κs. search needs)
     (λ c. search needs)
     (λ c. search needs)
     (λ c. search needs)

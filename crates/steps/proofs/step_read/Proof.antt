@@ -4,6 +4,7 @@ use mathlib.Core.Path.{refl, sym, _∙_}
 use Rattle.laws.specs.Answers.{accepted-parts}
 use Rattle.laws.specs.Steps.{step-refused, step-accepted}
 use Rattle.steps.specs.Laws.Counts.{records-after-accepted, records-after-refused}
+use Rattle.steps.specs.Laws.Acceptances.{acceptance-accepted}
 use Rattle.steps.proofs.step_read.Statement.{statement}
 use Rattle.steps.proofs.step_read.Tie as tie
 
@@ -23,9 +24,11 @@ perform-requires c κs =
 
 returns-2 : tie.Need-returns-2
 returns-2 c =
-    let done = c .before .before .before .before .before .before .perform .ensures in
-    let answered = sym (c .before .before .before .before .before .before .before .before .before .before .before .before .ground-of-event .ensures .0) ∙ c .before .before .before .before .before .before .before .before .before .before .if1 .left in
-    let accepted = step-accepted _ _ _ _ answered (done .0) (done .1 .0) in
+    let s = c .before .before .before .before .before .before .before .before .before .before .before .before .before .before .before .before .before .before .before in
+    let done = c .before .before .before .before .before .before .before .perform .ensures in
+    let answered = sym (c .before .before .before .before .before .before .before .before .before .before .before .before .before .ground-of-event .ensures .0) ∙ c .before .before .before .before .before .before .before .before .before .before .before .if1 .left in
+    let told = c .accepted .ensures ∙ acceptance-accepted _ _ _ (s .pre .1 .1 .0) (done .0) in
+    let accepted = step-accepted _ _ _ _ answered told (done .1 .0) in
     (accepted .0, (accepted .1, record { counted = λ on. rw (records-after-accepted _ _ _ _ answered) (done .1 .1 .counted on); kept = done .1 .1 .kept }))
 
 pub step-read-spec : {M : Type 1} → statement M
@@ -36,6 +39,7 @@ step-read-spec =
     (λ c κs. search needs)
     returns
     perform-requires
+    (λ c κs. search needs)
     (λ c. search needs)
     (λ c. search needs)
     (λ c. search needs)

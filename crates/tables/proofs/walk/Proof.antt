@@ -1,5 +1,5 @@
--- The walk stands behind whole, valid records of the linear width, and has counted them. The measure is what is left of
--- the length.
+-- The walk stands behind whole, valid records of the linear width, and has counted them and struck them off. The measure is
+-- what is left of the length.
 use Prim.Native.Nat.{_-_}
 use mathlib.Core.Path.{refl, _∙_}
 use mathlib.Core.Logic.{⊎-elim}
@@ -33,8 +33,8 @@ returns c =
     let told = walk-stop (c .before .before .before .before .loop .inv .walked) (c .before .length-at .ensures) (c .if1 .taken) in
     (told, λ on valid. stopped-invalid told (c .before .before .before .loop-test .taken) valid)
 
-add-requires : tie.Need-add-requires Inv-loop μ-loop
-add-requires c κs =
+strike-requires : tie.Need-strike-requires Inv-loop μ-loop
+strike-requires c κs =
     rw rest-of-drop
     (counting-ready (c .before .before .before .before .before .before .before .loop .inv .counts (c .before .before .if2 .taken))
     (walk-read (c .before .before .before .before .before .before .before .loop .inv .walked) (c .before .before .before .before .length-at .ensures) (c .before .before .before .if1 .left))
@@ -84,7 +84,7 @@ walk-spec =
     same-length
     same-length-2
     returns
-    add-requires
+    strike-requires
     add-at
     add-records
     loop-less

@@ -2,10 +2,15 @@
 use mathlib.Core.Path.{ap, _∙_}
 use native.Mathlib.Omega.{arith}
 use borrow.Author.Needs.{needs}
+use Rattle.model.specs.Mappings.{mapping}
 use Rattle.tallies.specs.Tallies.{cells-without, by-pcid}
 use Rattle.tallies.specs.Laws.Tallied.{pcids-without-by}
 use Rattle.tallies.proofs.take_off.Statement.{statement}
 use Rattle.tallies.proofs.take_off.Tie as tie
+
+times-by-pcid-requires : tie.Need-times-by-pcid-requires
+unfolding mapping
+times-by-pcid-requires c κs = rw (c .kind .ensures) (c .before .before .before .before .before .pre .held .known)
 
 lower-requires : tie.Need-lower-requires
 lower-requires c κs =
@@ -30,7 +35,7 @@ take-off-spec =
     (tie.spec
     (λ c κs. search needs)
     (λ c κs. search needs)
-    (λ c κs. search needs)
+    times-by-pcid-requires
     (λ c κs. search needs)
     lower-requires
     lower-requires-2

@@ -19,15 +19,15 @@ Places = ℕ → List ℕ → Bool
 abbrev pub counts : ℕ → Places → List (List ℕ) → List ℕ
 counts n test rs = tabulate n (λ i. count (test i) rs)
 
+-- a record among the others
+pub count-among : (p : List ℕ → Bool) (rs ss : List (List ℕ)) (r : List ℕ) → count p (rs ++ r ∷ ss) ≡ cond (p r) 1 0 + count p (rs ++ ss)
+count-among p rs ss r = omega (arith, count-append p rs (r ∷ ss), count-append p rs ss, count-cons p r ss)
+
 module _ (n : ℕ) (test : Places) where
   -- a record that is counted at one place, among the others
   module _ (rs ss : List (List ℕ)) (r : List ℕ) (at : ℕ) (within : at < n) (here : (i : ℕ) → test i r ≡ eqb at i) where
     one-more : (i : ℕ) → count (test i) (rs ++ r ∷ ss) ≡ cond (eqb at i) 1 0 + count (test i) (rs ++ ss)
-    one-more i =
-        let whole = count-append (test i) rs (r ∷ ss) in
-        let rest = count-append (test i) rs ss in
-        let first : count (test i) (r ∷ ss) ≡ cond (eqb at i) 1 0 + count (test i) ss = rw (here i) at (count-cons (test i) r ss) in
-        omega (arith, whole, rest, first)
+    one-more i = rw (here i) at (count-among (test i) rs ss r)
 
     itself : count (test at) (rs ++ r ∷ ss) ≡ count (test at) (rs ++ ss) + 1
     itself = omega (arith, rw (eq-eqb at at refl) at (one-more at))
@@ -61,4 +61,4 @@ module _ (n : ℕ) (test : Places) where
   pub counts-same : (rs ss : List (List ℕ)) (r : List ℕ) → ((i : ℕ) → test i r ≡ false) → counts n test (rs ++ r ∷ ss) ≡ counts n test (rs ++ ss)
   counts-same rs ss r nowhere =
       tabulate-agree n (λ i. count (test i) (rs ++ r ∷ ss)) (λ i. count (test i) (rs ++ ss))
-      (λ i h. omega (arith, count-append (test i) rs (r ∷ ss), count-append (test i) rs ss, rw (nowhere i) at (count-cons (test i) r ss)))
+      (λ i h. omega (arith, rw (nowhere i) at (count-among (test i) rs ss r)))

@@ -16,7 +16,7 @@ use Rattle.model.specs.Tables.{count}
 use Rattle.laws.specs.Layouts.{of-mapping-kind}
 use Rattle.laws.specs.Tables.{count-nil}
 use Rattle.laws.specs.Mappings.{Starts, starts-parts, span-in-range-le}
-use Rattle.tallies.specs.Tallies.{row-of, cell-of, of-pcid, cell-counts, pcid-counts, raised, lowered, raised-by, lowered-by, by-pcid, cells-with, cells-without, pcids-with, pcids-without, Tallied, Countable, Counted}
+use Rattle.tallies.specs.Tallies.{row-of, cell-of, of-pcid, cell-counts, pcid-counts, raised, lowered, raised-by, lowered-by, by-pcid, cells-with, cells-without, pcids-with, pcids-without, Tallied, Strikable, Countable, Counted}
 use Rattle.tallies.specs.Laws.Lists.{length-tabulate, tabulate-constant}
 use Rattle.tallies.specs.Laws.Counts.{counts-raised, counts-lowered, counts-same, counted-some, counts-few}
 
@@ -71,11 +71,11 @@ length-pcids-without m pcids = length-pcids (guest-physical (m .kind)) pcids (m 
 module _ (part cells pcids : List ℕ) (h : Countable part cells pcids) where
   pub cells-with-fits : getD (cells-with (mapping part) cells) (cell-of (mapping part)) 0 < 65536
   unfolding cells-with raised-by
-  cells-with-fits = rw (getD-set-same cells (cell-of (mapping part)) (getD cells (cell-of (mapping part)) 0 + 1) 0 (omega (arith, h .long, h .place))) (omega (arith, h .few))
+  cells-with-fits = rw (getD-set-same cells (cell-of (mapping part)) (getD cells (cell-of (mapping part)) 0 + 1) 0 (omega (arith, h .strikable .long, h .strikable .place))) (omega (arith, h .strikable .few))
 
   pub pcids-with-fits : getD (raised (mapping part .pcid) pcids) (mapping part .pcid) 0 < 65536
   unfolding raised-by
-  pcids-with-fits = rw (getD-set-same pcids (mapping part .pcid) (getD pcids (mapping part .pcid) 0 + 1) 0 (h .pcid-place)) (omega (arith, h .pcid-few))
+  pcids-with-fits = rw (getD-set-same pcids (mapping part .pcid) (getD pcids (mapping part .pcid) 0 + 1) 0 (h .strikable .pcid-place)) (omega (arith, h .pcid-few))
 
 -- ---- a record by its PCID, with no test of its kind
 
@@ -141,7 +141,7 @@ module _ (rs ss : List (List ℕ)) (r : List ℕ) (start : starts-record r ≡ t
   unfolding of-pcid
   nowhere physical i = rw physical
 
-  cell-counts-with : cell-counts (rs ++ r ∷ ss) ≡ cells-with (mapping r) (cell-counts (rs ++ ss))
+  pub cell-counts-with : cell-counts (rs ++ r ∷ ss) ≡ cells-with (mapping r) (cell-counts (rs ++ ss))
   unfolding cell-counts cells-with
   cell-counts-with = counts-raised 30 (λ cell r. eqb (cell-of (mapping r)) cell) rs ss r (cell-of (mapping r)) cell-small (λ i. refl)
 
@@ -149,7 +149,7 @@ module _ (rs ss : List (List ℕ)) (r : List ℕ) (start : starts-record r ≡ t
   unfolding cell-counts cells-without
   cell-counts-without = counts-lowered 30 (λ cell r. eqb (cell-of (mapping r)) cell) rs ss r (cell-of (mapping r)) cell-small (λ i. refl)
 
-  pcid-small : mapping r .pcid < 4096
+  pub pcid-small : mapping r .pcid < 4096
   pcid-small = pcid-below (mapping r) (starts .fields)
 
   pcid-counts-with : pcid-counts (rs ++ r ∷ ss) ≡ pcids-with (mapping r) (pcid-counts (rs ++ ss))
@@ -177,6 +177,18 @@ module _ (rs ss : List (List ℕ)) (r : List ℕ) (start : starts-record r ≡ t
       go false other = omega (arith, counted-some 4096 of-pcid rs ss r (mapping r .pcid) pcid-small (under other))
 
   module _ {cells pcids : List ℕ} where
+    pub strikable : cells ≡ cell-counts (rs ++ ss) → length pcids ≡ 4096 → length (rs ++ ss) < 65535 → Strikable r cells pcids
+    unfolding cell-counts
+    strikable is long few =
+        record {
+          held = starts .held;
+          long = ap length is ∙ length-tabulate 30 _;
+          place = cell-small;
+          few = rw is (omega (arith, few, counts-few 30 (λ cell r. eqb (cell-of (mapping r)) cell) (rs ++ ss) (cell-of (mapping r)) cell-small));
+          pcids-long = long;
+          pcid-place = omega (arith, long, pcid-small);
+        }
+
     pub tallied-with : Tallied (rs ++ ss) cells pcids → Tallied (rs ++ r ∷ ss) (cells-with (mapping r) cells) (pcids-with (mapping r) pcids)
     tallied-with t =
         record {
@@ -196,13 +208,7 @@ module _ (rs ss : List (List ℕ)) (r : List ℕ) (start : starts-record r ≡ t
     unfolding cell-counts pcid-counts
     tallied-countable t few =
         record {
-          held = starts .held;
-          long = ap length (t .cells) ∙ length-tabulate 30 _;
-          place = cell-small;
-          few =
-              rw (t .cells)
-              (omega (arith, few, counts-few 30 (λ cell r. eqb (cell-of (mapping r)) cell) (rs ++ ss) (cell-of (mapping r)) cell-small));
-          pcid-place = omega (arith, ap length (t .pcids), length-tabulate 4096 (λ pcid. count (of-pcid pcid) (rs ++ ss)), pcid-small);
+          strikable = strikable (t .cells) (ap length (t .pcids) ∙ length-tabulate 4096 _) few;
           pcid-few = rw (t .pcids) (omega (arith, few, counts-few 4096 of-pcid (rs ++ ss) (mapping r .pcid) pcid-small));
         }
 

@@ -2,12 +2,11 @@
 use Prim.Native.Nat.{ℕ}
 use mathlib.Core.Bool.{Bool, true, false, cond, not, _&&_, false≢true}
 use mathlib.Core.List.{List}
-use mathlib.Core.Path.{_≡_, refl, sym, _∙_}
+use mathlib.Core.Path.{_≡_, refl, sym}
 use native.Mathlib.Omega.{arith}
-use lib.Dec.{eqb}
 use lib.ListN.{length}
 use Rattle.model.specs.Layouts.{kind-of, mapping-kind}
-use Rattle.model.specs.Mappings.{wide, other-width, record-length}
+use Rattle.model.specs.Mappings.{other-width, record-length}
 use Rattle.laws.specs.Mappings.{record-length-unknown, record-length-le}
 use Rattle.valid_records.specs.Lengths.{length-at}
 
@@ -38,8 +37,3 @@ length-at-empty w r none = go (other-width w (kind-of r))
     go : (b : Bool) → cond b 0 (record-length r) ≡ 0
     go true = refl
     go false = omega (arith, record-length-le r)
-
--- a kind of 48 bits is not wide; every width but 57 is read as 48
-pub not-wide : (w k : ℕ) → eqb w 57 ≡ false → other-width w k ≡ false → wide k ≡ false
-unfolding other-width
-not-wide w k narrow own = rw narrow at own

@@ -1,6 +1,6 @@
--- Which tests say that the fields of a held record are in their ranges.
-use Prim.Native.Nat.{ℕ, zero, suc, _+_, _-_, _*_, _/_, _%_, _^_, _≤_, _<_}
-use mathlib.Core.Bool.{Bool, true, false, cond, not, _&&_, _||_, and-true, and-false, or-false, and-eq-true-iff, Bool·not-not}
+-- The ranges of a held record's fields by bits of them.
+use Prim.Native.Nat.{ℕ, zero, suc, _+_, _-_, _*_, _/_, _^_, _<_}
+use mathlib.Core.Bool.{Bool, true, false, cond, not, _&&_, and-true, and-false}
 use mathlib.Core.List.{List}
 use mathlib.Core.Path.{_≡_, refl, sym, ap, _∙_}
 use native.Mathlib.Nat.{zero-mul, suc-mul, mod-eq-of-lt, div-eq-of-lt, div-lt-iff-lt-mul}
@@ -10,12 +10,10 @@ use lib.Bits.{bitAnd, and-zero-r, and-high}
 use lib.Dec.{eqb, leb, ltb, leb·zero}
 use lib.Pow.{pow-pos, shr-lt}
 use Rattle.model.specs.Bits.{number}
-use Rattle.model.specs.Layouts.{mapping-kind}
-use Rattle.model.specs.Mappings.{mapping, Held, guest-physical, structure-cache, wide, global-marked, span-in-range, page-in-range, fields-in-range}
+use Rattle.model.specs.Context.{pcid-in-range}
+use Rattle.model.specs.Mappings.{mapping, Held, guest-physical, global-marked, span-in-range, page-in-range, fields-in-range}
 use Rattle.model.specs.declared.Mapping.{Mapping}
-use Rattle.laws.specs.Layouts.{of-mapping-kind, agrees, agrees-true}
 use Rattle.laws.specs.Mappings.{pcid-held, global-held}
-use Rattle.valid_records.specs.Ranges.{pcid-and-mark-in-range}
 
 -- a quotient is 0 below the divisor alone
 pub quotient-none : (x k : ℕ) → 0 < k → eqb (x / k) 0 ≡ ltb x k
@@ -31,7 +29,7 @@ quotient-none x k some = go (ltb x k) refl
         absurd (omega (arith, ltb-false x k e, below)))
 
 -- below a number is at most the one before
-ltb-suc : (x n : ℕ) → ltb x (suc n) ≡ leb x n
+pub ltb-suc : (x n : ℕ) → ltb x (suc n) ≡ leb x n
 ltb-suc x n = go (leb x n) refl
   where
     go : (b : Bool) → leb x n ≡ b → ltb x (suc n) ≡ b
@@ -50,19 +48,15 @@ high-bits-none x j k within =
     product-none (suc q) m some =
         ne-eqb (suc q * m) 0 (λ none. absurd (omega (arith, suc-mul q m, some, none))) ∙ sym (ne-eqb (suc q) 0 (λ none. absurd (omega (arith, none))))
 
--- a span or a page out of its range puts the fields out of theirs; else PCID and global mark decide
+-- a span out of its range puts the fields out of theirs; else PCID, global mark and page decide
 module _ (m : Mapping) where
   pub ranges-off : span-in-range (m .kind) (m .span) ≡ false → fields-in-range m ≡ false
   unfolding fields-in-range
   ranges-off off = rw (off, and-false)
 
-  pub ranges-off-page : page-in-range (m .kind) (m .span) (m .page) ≡ false → fields-in-range m ≡ false
+  pub ranges-on : span-in-range (m .kind) (m .span) ≡ true → (leb (m .global) 1 && pcid-in-range (m .pcid) && page-in-range (m .kind) (m .span) (m .page)) ≡ fields-in-range m
   unfolding fields-in-range
-  ranges-off-page off = rw (off, and-false)
-
-  pub ranges-on : span-in-range (m .kind) (m .span) ≡ true → page-in-range (m .kind) (m .span) (m .page) ≡ true → pcid-and-mark-in-range m ≡ fields-in-range m
-  unfolding fields-in-range pcid-and-mark-in-range
-  ranges-on span page = rw (span, page, and-true, and-true)
+  ranges-on on = rw (on, and-true)
 
 -- a field that a kind lacks is 0, and so in its range: where the kind has it, the bits above its range are 0
 bits-where : (b : Bool) (x j k most : ℕ) → x < 2 ^ (j + k) → 2 ^ k ≡ suc most
@@ -73,8 +67,7 @@ bits-where false x j k most within is = ap (λ y. eqb y 0) (and-zero-r x) ∙ sy
 -- the ranges of PCID and global mark, by bits of the bytes where some kinds have them
 pub pcid-and-mark-bits : (r : List ℕ) → Held r → number 1 5 r < 256 → number 2 3 r < 2 ^ 16
     → (eqb (bitAnd (number 1 5 r) (cond (global-marked (mapping r .kind)) 0xFE 0)) 0 && eqb (bitAnd (number 2 3 r) (cond (guest-physical (mapping r .kind)) 0 0xF000)) 0)
-    ≡ pcid-and-mark-in-range (mapping r)
-unfolding pcid-and-mark-in-range
+    ≡ (leb (mapping r .global) 1 && pcid-in-range (mapping r .pcid))
 pcid-and-mark-bits r held one two =
     rw (
       bits-where (global-marked (mapping r .kind)) (number 1 5 r) 7 1 1 one refl,
