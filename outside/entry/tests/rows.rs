@@ -146,7 +146,10 @@ fn the_readme() {
         let path = entry.expect("a file").path();
         fs::copy(&path, examples.join(path.file_name().expect("a name"))).expect("a copy");
     }
+    let log = "examples/five-events.log";
+    fs::copy(top().join(log), checkout.path(log)).expect("a copy");
     assert_eq!(checkout.sh("./skuldrefn rows a.table").status, 0);
+    assert_eq!(checkout.sh(&format!("./skuldrefn show {log}")).status, 0);
     let readme = fs::read_to_string(top().join("README.md")).expect("README.md");
     let (_, section) = readme
         .split_once("\n## A table as fixed rows\n")
@@ -155,6 +158,7 @@ fn the_readme() {
     let mut tried = 0;
     for (line, status) in [
         ("./skuldrefn rows examples/tables/three-kinds.table | od -A d -t x1 -v -w32", 0),
+        ("./skuldrefn show --table examples/five-events.log after=3 | ./skuldrefn rows | od -A d -t x1 -v -w32", 0),
         ("./skuldrefn table examples/tables/three-kinds.rows | cmp - examples/tables/three-kinds.table", 0),
         ("./skuldrefn table examples/tables/bad-row.rows", 1),
     ] {
@@ -168,5 +172,5 @@ fn the_readme() {
         }
         tried += 1;
     }
-    assert_eq!(tried, 3);
+    assert_eq!(tried, 4);
 }

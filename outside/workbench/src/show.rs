@@ -111,6 +111,10 @@ pub fn show(words: &Words) -> Found {
     let log = Log::read(&words.logs[0], width)?;
     let at = run_to(&log, words)?;
     let run = &at.run;
+    if words.flag("--table") {
+        crate::write(run.table())?;
+        return Ok(at.tell_stop(&log, "show"));
+    }
     let tally = count(width, run.table());
     let tally = tally.map_err(|answer| Failure::new(format!("the library answers {answer}")))?;
     if words.flag("--json") {

@@ -23,7 +23,7 @@ pub const COMMANDS: [Command; 8] = [
         name: "show",
         help: include_str!("../help/show.txt"),
         logs: (1, 1),
-        options: &["--json"],
+        options: &["--json", "--table"],
         named: &["after"],
     },
     Command {
@@ -216,6 +216,9 @@ impl Words {
             return Err("standard input can be one file only".to_string());
         }
         match command.name {
+            "show" if self.flag("--json") && self.flag("--table") => {
+                Err("--json and --table are two forms of the result; take one".to_string())
+            }
             "explain" if self.number("event").is_none() => Err("event=N is missing".to_string()),
             "lookup" => self.address().map(|_| ()),
             _ => Ok(()),

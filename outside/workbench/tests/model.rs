@@ -11,7 +11,8 @@ use model::replay::first_event;
 use model::{explain, usable, Address, Context, LinearWidth, Reason, PROGRAM_CAPABILITY};
 use std::collections::{BTreeMap, BTreeSet};
 use std::fmt::Write;
-use tool::{fed, Folder, Run};
+use std::process::Output;
+use tool::{fed, fed_output, Folder, Run};
 
 const SEED: u64 = 20;
 
@@ -69,6 +70,15 @@ impl Modelled {
 
     /// Runs the program on the log, with the settings that the book had.
     fn run(&self, command: &str, words: &[&str]) -> Run {
+        self.with_settings(command, words, fed)
+    }
+
+    /// The same where what it writes is no text.
+    fn output(&self, command: &str, words: &[&str]) -> Output {
+        self.with_settings(command, words, fed_output)
+    }
+
+    fn with_settings<T>(&self, command: &str, words: &[&str], run: fn(&[&str], &[u8]) -> T) -> T {
         let capability = format!("{:#x}", self.start.capability);
         let (width, linear) = (
             self.start.width.to_string(),
@@ -77,7 +87,7 @@ impl Modelled {
         let mut all = vec![command, "--capability", &capability, "--width", &width];
         all.extend(["--linear-width", &linear, "-"]);
         all.extend(words);
-        fed(&all, &self.log)
+        run(&all, &self.log)
     }
 
     fn linear_width(&self) -> u64 {
@@ -133,6 +143,11 @@ fn what_stands_and_who_made_it() {
         let count = taken.stand.len();
         let due = format!("mappings in force: {count}\nbytes in force: {bytes}\n");
         assert!(run.out.ends_with(&due), "{}", run.out);
+        let output = modelled.output("show", &["--table", &format!("after={number}")]);
+        let records = taken.stand.iter().flat_map(|(_, record)| record);
+        assert!(output.stdout.iter().eq(records), "{output:?}");
+        assert_eq!(output.status.code(), Some(run.status));
+        assert_eq!(output.stderr, run.said.as_bytes());
         mappings += count;
     }
     assert!(mappings > 200, "{mappings}");

@@ -32,6 +32,10 @@ fn words_that_are_not_taken() {
             "after is given twice",
         ),
         (&["show", "--all", FIVE], "show has no option '--all'"),
+        (
+            &["show", "--json", "--table", FIVE],
+            "--json and --table are two forms of the result; take one",
+        ),
         (&["show", "--json", FIVE, "--json"], "--json is given twice"),
         (
             &["show", FIVE, "--width"],

@@ -44,6 +44,11 @@ pub fn run(words: &[&str]) -> Run {
 
 /// Runs the program with these bytes as its standard input.
 pub fn fed(words: &[&str], input: &[u8]) -> Run {
+    Run::of(fed_output(words, input))
+}
+
+/// The same where what it writes is no text.
+pub fn fed_output(words: &[&str], input: &[u8]) -> Output {
     let mut child = command(words)
         .stdin(Stdio::piped())
         .stdout(Stdio::piped())
@@ -58,7 +63,7 @@ pub fn fed(words: &[&str], input: &[u8]) -> Run {
     });
     let output = child.wait_with_output().expect("the program ends");
     writer.join().expect("a writer");
-    Run::of(output)
+    output
 }
 
 /// The log of a text.
