@@ -181,10 +181,10 @@ int main(void)
     guest.place = SKULDREFN_GUEST;
     guest.vpid = 5;
     guest.pcid = 1;
-    skuldrefn_level_step both = skuldrefn_step_levels(
+    skuldrefn_level_step both = skuldrefn_step_levels_tally(
         guest, created, created_length,
-        small_tally.kinds, small_tally.pcids, SKULDREFN_PCIDS, NULL, 0, small, sizeof small,
-        fresh.kinds, fresh.pcids, SKULDREFN_PCIDS, NULL, 0, wide, sizeof wide);
+        &small_tally, NULL, 0, small, sizeof small,
+        &fresh, NULL, 0, wide, sizeof wide);
     skuldrefn_level_part part = skuldrefn_lookup_levels(
         guest, small, 0, wide, both.second.length, UINT64_C(0x12345678));
     int in_second = both.answer == SKULDREFN_ACCEPTED && both.first.length == sizeof small

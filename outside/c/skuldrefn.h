@@ -433,6 +433,31 @@ skuldrefn_level_step skuldrefn_step_levels(
     const uint8_t *second_table, size_t second_table_length,
     uint8_t *second_new, size_t second_new_length);
 
+/*
+ * skuldrefn_step_levels on two tallies in one struct each, which become those of the
+ * new tables; a refusal leaves both.
+ */
+static inline skuldrefn_level_step skuldrefn_step_levels_tally(
+    skuldrefn_context context,
+    const uint8_t *event, size_t event_length,
+    skuldrefn_tally *tally,
+    const uint8_t *table, size_t table_length,
+    uint8_t *new_table, size_t new_length,
+    skuldrefn_tally *second_tally,
+    const uint8_t *second_table, size_t second_table_length,
+    uint8_t *second_new, size_t second_new_length)
+{
+    skuldrefn_level_step step = skuldrefn_step_levels(
+        context, event, event_length,
+        tally->kinds, tally->pcids, SKULDREFN_PCIDS,
+        table, table_length, new_table, new_length,
+        second_tally->kinds, second_tally->pcids, SKULDREFN_PCIDS,
+        second_table, second_table_length, second_new, second_new_length);
+    tally->kinds = step.first.kinds;
+    second_tally->kinds = step.second.kinds;
+    return step;
+}
+
 /* What a lookup in both levels reports. */
 typedef struct {
     uint64_t answer; /* 0 to 3: the first table's, or the second's where that is 0 */

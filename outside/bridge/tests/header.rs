@@ -253,14 +253,10 @@ int main(void)
     };
     for (int i = 0; i < 4; i++) {
         int now = i < 2 ? 0 : 1;
-        skuldrefn_level_step step = skuldrefn_step_levels(
+        skuldrefn_level_step step = skuldrefn_step_levels_tally(
             context, cases[i].event, cases[i].length,
-            first.kinds, first.pcids, SKULDREFN_PCIDS, small[1 - now], cases[i].tables[0],
-            small[now], cases[i].rooms[0],
-            second.kinds, second.pcids, SKULDREFN_PCIDS, large[1 - now], cases[i].tables[1],
-            large[now], cases[i].rooms[1]);
-        first.kinds = step.first.kinds;
-        second.kinds = step.second.kinds;
+            &first, small[1 - now], cases[i].tables[0], small[now], cases[i].rooms[0],
+            &second, large[1 - now], cases[i].tables[1], large[now], cases[i].rooms[1]);
         printf("%d %d, %d %d, %d %d, %d %d\n", (int)step.answer, (int)step.rule,
             (int)step.first.length, (int)step.first.dropped, (int)step.second.length,
             (int)step.second.dropped, first.kinds.rows[0].spans[2], second.pcids[0]);
