@@ -4,7 +4,7 @@ ghost use mathlib.Core.Bool.{true};
 ghost use Prim.Native.Nat.{_+_, _%_, _≤_};
 ghost use lib.ListN.{length};
 ghost use Rattle.model.specs.Buffers.{put};
-ghost use Rattle.model.specs.Tables.{limit, whole};
+ghost use Rattle.model.specs.Tables.{whole};
 ghost use Rattle.fixed_rows.specs.FixedRows.{exported, exporting, exporting-written, record-named, imported, first-bad, importing, importing-written};
 ghost use Rattle.fixed_rows.specs.Laws.Rows.{Fitting, Named};
 

@@ -124,6 +124,9 @@ pub mapping-kind-range : (k : ℕ) → mapping-kind k ≡ (leb 1 k && leb k 10)
 unfolding mapping-kind
 mapping-kind-range = agrees-below mapping-kind (λ k. leb 1 k && leb k 10) 64 refl mapping-kind-below (small-range 1 10 (lit< tt))
 
+pub mapping-kind-ge : (k : ℕ) → mapping-kind k ≡ true → 1 ≤ k
+mapping-kind-ge k known = leb-true 1 k (of-mapping-kind (λ k. leb 1 k) refl k known)
+
 pub mapping-kind-le : (k : ℕ) → mapping-kind k ≡ true → k ≤ 10
 mapping-kind-le k known = leb-true k 10 (of-mapping-kind (λ k. leb k 10) refl k known)
 

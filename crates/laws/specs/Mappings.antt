@@ -25,6 +25,14 @@ span-in-range-le k s = go (structure-cache k) (wide k)
     go true false e = omega (arith, leb-true s 3 (and-eq-true-iff (leb 1 s) (leb s 3) .0 e .1))
     go false w e = omega (arith, leb-true s 2 e)
 
+-- so no kind has a span above
+pub span-in-range-above : (k s : ℕ) → 4 < s → span-in-range k s ≡ false
+span-in-range-above k s far = go (span-in-range k s) refl
+  where
+    go : (b : Bool) → span-in-range k s ≡ b → b ≡ false
+    go true on = absurd (omega (arith, span-in-range-le k s on))
+    go false off = refl
+
 -- only a known kind has a sort, is a structure cache, or carries a global mark
 of-sort-known : (s : Sort) (k : ℕ) → of-sort s k ≡ true → mapping-kind k ≡ true
 of-sort-known s = row-test-known (λ row. eqb (sort-number (row .sort)) (sort-number s))

@@ -44,14 +44,6 @@ pub fn number5(s: &[u8], at: usize) -> u64
     number4(s, at) + 4294967296 * wide(s[at + 4])
 }
 
-// The number of the six bytes at a position.
-pub fn number6(s: &[u8], at: usize) -> u64
-    requires { ⌜ at + 6 ≤ length (now s) ⌝ }
-    ensures { λ r. ⌜ (r ≡ number 6 at (now (s .entry))) × (r < 2 ^ 48) ⌝ }
-{
-    number4(s, at) + 4294967296 * number2(s, at + 4)
-}
-
 // The number of the eight bytes at a position.
 pub fn number8(s: &[u8], at: usize) -> u64
     requires { ⌜ at + 8 ≤ length (now s) ⌝ }

@@ -4,7 +4,7 @@ use model::EventReading;
 use model::Explanation;
 use model::Reason;
 ghost use mathlib.Core.Path.{_≡_};
-ghost use Rattle.model.specs.Reasons.{one-record, explanation, reason-number, explanation-number, explanation-answer, explanation-rule};
+ghost use Rattle.model.specs.Reasons.{explanation, reason-number, explanation-number, explanation-answer, explanation-rule};
 
 // Why the event drops the record in the bytes or leaves it, judged in the context. The step's refusal goes
 // first; bytes that are not exactly one valid record are refused with 3.

@@ -58,8 +58,8 @@ fn mapping_named(row: &[u8]) -> Mapping
 // Bits that must be 0 in a row: of its first eight bytes, of its page and of its EP4TA.
 struct Mask(u64, u64, u64);
 
-// The masks, five for each kind from 1 on, by span. Where the kind may not have the span it is that of the kind byte, which
-// is not 0. The compiler makes a table of the match; an array it would store anew at each call.
+// The masks, five for each kind from 1 on, by span. Where the kind may not have the span, the mask is that of the kind byte,
+// which is not 0. The compiler makes a table of the match; an array it would store anew at each call.
 fn mask_at(i: u64) -> Mask
     requires { ⌜ i < 50 ⌝ }
     ensures { λ r. ⌜ (r .0 ≡ first-mask-at i) × ((r .1 ≡ page-mask-at i) × (r .2 ≡ ep4ta-mask-at i)) ⌝ }
@@ -197,7 +197,7 @@ fn put_word(table: &mut [u8], at: usize, x: u64)
 }
 
 // Writes the record of a mapping and three zero bytes, and answers where the record ends. Rows mix their kinds, so it is
-// written in six numbers, of one byte or of eight for all kinds; what one writes too much, the next go over.
+// written in six numbers, of one byte or of eight for all kinds; what one writes too much, the next ones write over.
 fn put_mapping(mapping: Mapping, table: &mut [u8], at: usize) -> usize
     requires { ⌜ mapping-kind (mapping .kind) ≡ true ⌝ }
     requires { ⌜ Small mapping ⌝ }

@@ -26,8 +26,8 @@ pub struct Judged {
     pub records: usize,
 }
 
-// Passes over the whole, valid records of a linear width at the front of the table. Where that is asked for, each is counted
-// by kind and span, and struck off the counts by PCID. It is read as the part of the table that starts at its kind byte.
+// Passes over the whole, valid records of a linear width at the front of the table. Each record is read as the part of the
+// table that starts at its kind byte; where that is asked for, it is counted by kind and span, and struck off the counts by PCID.
 fn walk(width: u64, table: &[u8], counting: bool, cells: &mut [u16], pcids: &mut [u16]) -> Passed
     requires { ⌜ length (now table) ≤ limit ⌝ }
     requires { ⌜ (counting ≡ true → Struck (now pcids) [] (now cells) (now pcids)) ⌝ }

@@ -98,7 +98,7 @@ pub record PcidCounts (pcids : List ℕ) : Type 0 where
   pub long : length pcids ≡ 4096
   pub small : (i : ℕ) → getD pcids i 0 < 65536
 
--- the thirty counts are those of some records, and those by PCID what these leave of others
+-- the thirty counts are those of some records, and the counts by PCID what is left of given ones when these are struck off
 pub record Struck (pcids : List ℕ) (rs : List (List ℕ)) (xs ys : List ℕ) : Type 0 where
   pub cells : xs ≡ cell-counts rs
   pub left : ys ≡ pcids-left pcids rs

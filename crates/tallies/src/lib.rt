@@ -77,7 +77,7 @@ pub fn add(part: &[u8], cells: &mut [u16], pcids: &mut [u16])
 }
 
 // Counts the record at the front by kind and span, and strikes it off counts by PCID, which wrap at 2^16. Where its kind
-// has no PCID, none is struck off some count: nothing is picked by the kind, so that no branch on it is mispredicted.
+// has no PCID, 0 is struck off some count: how many is read by a shift, so that no branch on the kind is mispredicted.
 pub fn strike(part: &[u8], cells: &mut [u16], pcids: &mut [u16])
     requires { ⌜ Strikable (now part) (now cells) (now pcids) ⌝ }
     ensures { λ _. ⌜ now (cells .exit) ≡ cells-with (mapping (now (part .entry))) (now (cells .entry)) ⌝ }

@@ -9,8 +9,8 @@ ghost use Rattle.valid_records.specs.Lengths.{length-at};
 // Bits that must be 0: of a record's first eight bytes, and of its next eight.
 struct Mask(u64, u64);
 
-// The masks, five for each kind from 1 on, by span. Where the kind may not have the span it is that of the kind byte, which
-// is not 0. The compiler makes a table of the match; an array it would store anew at each call.
+// The masks, five for each kind from 1 on, by span. Where the kind may not have the span, the mask is that of the kind byte,
+// which is not 0. The compiler makes a table of the match; an array it would store anew at each call.
 fn mask_at(i: u64) -> Mask
     requires { ⌜ i < 50 ⌝ }
     ensures { λ r. ⌜ (r .0 ≡ mask-at i % 2 ^ 64) × (r .1 ≡ mask-at i / 2 ^ 64) ⌝ }

@@ -13,7 +13,8 @@ use Rattle.model.specs.Mappings.{other-width}
 use Rattle.row_fields.specs.Rows.{Column, column}
 use Rattle.row_fields.specs.Masks.{frame-mask}
 use Rattle.row_fields.specs.Laws.Rows.{rest-good, bad-kind, good-by-ranges, length-good, length-bad}
-use Rattle.row_fields.specs.Laws.Masks.{kind-range, masks-of-row, far-span}
+use Rattle.laws.specs.Layouts.{mapping-kind-ge, mapping-kind-le}
+use Rattle.row_fields.specs.Laws.Masks.{masks-of-row, far-span}
 use Rattle.row_fields.proofs.length_of_named.Statement.{statement}
 use Rattle.row_fields.proofs.length_of_named.Tie as tie
 
@@ -49,7 +50,7 @@ returns-2 c =
 
 -- the kind is one from 1 to 10
 some : (c : tie.Else1) → (1 ≤ c .before .before .number1 .result) × (c .before .before .number1 .result ≤ 10)
-some c = let range = kind-range _ (known c) in (omega (arith, kind (c .before .before), range .0), omega (arith, kind (c .before .before), range .1))
+some c = (omega (arith, kind (c .before .before), mapping-kind-ge _ (known c)), omega (arith, kind (c .before .before), mapping-kind-le _ (known c)))
 
 mul-mask-at : tie.Need-mul-mask-at
 mul-mask-at c = omega (arith, some (c .before .before))

@@ -5,15 +5,15 @@ use mathlib.Core.List.{List}
 use mathlib.Core.Path.{_≡_, refl, sym, ap, ap₂, _∙_}
 use native.Mathlib.Nat.{mod-eq-of-lt}
 use native.Mathlib.Omega.{arith}
-use borrow.Author.Tests.{leb-true, ltb-true, lt-ltb, le-leb, not-true}
+use borrow.Author.Tests.{ltb-true, lt-ltb, le-leb, not-true}
 use lib.Bits.{bitAnd, and-mask}
 use lib.Dec.{eqb, leb, ltb, lit<}
 use lib.ListN.{getD}
 use Rattle.model.specs.Bits.{number, page-width}
 use Rattle.model.specs.Layouts.{mapping-kind}
 use Rattle.model.specs.Mappings.{guest-physical, linear, wide, global-marked, span-in-range, pages}
-use Rattle.laws.specs.Layouts.{of-mapping-kind, mapping-kind-le}
-use Rattle.laws.specs.Mappings.{span-in-range-le}
+use Rattle.laws.specs.Layouts.{of-mapping-kind, mapping-kind-ge}
+use Rattle.laws.specs.Mappings.{span-in-range-le, span-in-range-above}
 use Rattle.valid_records.specs.Laws.Ranges.{high-bits-none, ltb-suc, ranges-off, ranges-on}
 use Rattle.valid_records.specs.Laws.Masks.{none-in-parts, none-in-high, page-none, number-below}
 use Rattle.row_fields.specs.Rows.{Column, column, named}
@@ -74,10 +74,6 @@ in-columns true true true false w f e p′ g′ w′ m = rw and-false
 in-columns true true true true false f e p′ g′ w′ m = rw and-false
 in-columns true true true true true false e p′ g′ w′ m = rw and-false
 in-columns true true true true true true false p′ g′ w′ m = rw and-false
-
--- there are ten kinds of mappings, from 1 on
-pub kind-range : (k : ℕ) → mapping-kind k ≡ true → (1 ≤ k) × (k ≤ 10)
-kind-range k known = (leb-true 1 k (of-mapping-kind (λ k. leb 1 k) refl k known), mapping-kind-le k known)
 
 -- ---- a row
 
@@ -188,7 +184,7 @@ module _ (r : List ℕ) (bytes : (i : ℕ) → getD r i 0 < 256) where
     pub masks-of-row : (kind span : ℕ) → kind ≡ k → span ≡ s → span ≤ 4
         → unmasked r (first-mask-at (5 * kind + span - 5)) (page-mask-at (5 * kind + span - 5)) (ep4ta-mask-at (5 * kind + span - 5)) ≡ rest-good r
     masks-of-row kind span is-kind is-span few =
-        let some = kind-range k known .0 in
+        let some = mapping-kind-ge k known in
         let of-kind : 1 + (5 * kind + span - 5) / 5 ≡ k = omega (arith, is-kind, some) in
         let of-span : (5 * kind + span - 5) % 5 ≡ s = omega (arith, is-kind, is-span, some) in
         rw (of-kind, of-span) (go (span-in-range k s) refl)
@@ -198,11 +194,7 @@ module _ (r : List ℕ) (bytes : (i : ℕ) → getD r i 0 < 256) where
         go true on = masks-on on
         go false off = masks-off off
 
--- no kind has a span above 4
+-- a row with a span above 4, which no kind has, is bad
 pub far-span : (r : List ℕ) → 4 < column Column.span r → rest-good r ≡ false
 unfolding named
-far-span r far = rw (ranges-off (named r) (go (span-in-range (column Column.kind r) (column Column.span r)) refl), and-false)
-  where
-    go : (b : Bool) → span-in-range (column Column.kind r) (column Column.span r) ≡ b → b ≡ false
-    go true on = absurd (omega (arith, span-in-range-le (column Column.kind r) (column Column.span r) on))
-    go false off = refl
+far-span r far = rw (ranges-off (named r) (span-in-range-above (column Column.kind r) (column Column.span r) far), and-false)

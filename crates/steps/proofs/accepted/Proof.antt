@@ -1,3 +1,4 @@
+-- The context after the event is worked out; the rest is handed on.
 use borrow.Author.Needs.{needs}
 use Rattle.steps.proofs.accepted.Statement.{statement}
 use Rattle.steps.proofs.accepted.Tie as tie

@@ -1,7 +1,6 @@
 -- A valid table of one record.
 use mathlib.Core.Path.{sym, _∙_}
 use borrow.Author.Needs.{needs}
-use denote.Ref.{now}
 use Rattle.laws.specs.Reasons.{one-record-judged}
 use Rattle.tables.specs.Laws.Judged.{judged-records-whole}
 use Rattle.tables.proofs.is_one_record.Statement.{statement}

@@ -1,18 +1,23 @@
 -- A span above 4 decides; else the bits of the two halves.
 use borrow.Author.Needs.{needs}
-use Prim.Native.Nat.{ℕ, _≤_}
+use Prim.Native.Nat.{ℕ, _≤_, _<_}
 use mathlib.Core.Bool.{_&&_}
 use mathlib.Core.Path.{sym, ap₂, _∙_}
 use native.Mathlib.Omega.{arith}
+use denote.Ref.{now}
 use lib.Bits.{bitAnd}
 use lib.Dec.{eqb}
-use Rattle.laws.specs.Mappings.{held-length}
-use Rattle.valid_records.specs.Laws.Masks.{kind-of-held, masks-of-record, fields-of-far-span}
+use Rattle.model.specs.Mappings.{mapping}
+use Rattle.laws.specs.Mappings.{held-length, span-in-range-above}
+use Rattle.valid_records.specs.Laws.Ranges.{ranges-off}
+use Rattle.valid_records.specs.Laws.Masks.{kind-of-held, masks-of-record}
 use Rattle.valid_records.proofs.is_in_ranges.Statement.{statement}
 use Rattle.valid_records.proofs.is_in_ranges.Tie as tie
 
 returns : tie.Need-returns
-returns c = sym (fields-of-far-span _ (omega (arith, c .before .span .ensures)))
+returns c =
+    let far : 4 < mapping (now (c .before .before .before .args .part)) .span = omega (arith, c .before .span .ensures) in
+    sym (ranges-off _ (span-in-range-above _ _ far))
 
 -- the kind that was read
 kind : (c : tie.After-kind) → (1 ≤ c .kind .result) × (c .kind .result ≤ 10)

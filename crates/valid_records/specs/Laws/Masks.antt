@@ -5,15 +5,15 @@ use mathlib.Core.List.{List}
 use mathlib.Core.Path.{_≡_, refl, sym, ap, ap₂, subst, _∙_}
 use native.Mathlib.Nat.{zero-mul, zero-add, suc-mul, add-comm, mod-lt, mod-eq-of-lt, lt-of-lt-of-le, pow-suc}
 use native.Mathlib.Omega.{arith}
-use borrow.Author.Tests.{eqb-true, leb-true, ne-eqb, not-true}
+use borrow.Author.Tests.{eqb-true, ne-eqb, not-true}
 use lib.Bits.{bitAnd, and-zero-r, and-block, and-mask}
-use lib.Dec.{eqb, leb, ltb, lit<}
+use lib.Dec.{eqb, ltb, lit<}
 use lib.ListN.{getD}
 use lib.Pow.{pow-pos, pow-mono, shr-lt, split, ones-lt, high-ones, mod-mod-pow}
 use Rattle.model.specs.Bits.{number, page-width}
 use Rattle.model.specs.Layouts.{Field, kind-of, body-of}
 use Rattle.model.specs.Mappings.{mapping, Held, guest-physical, wide, global-marked, span-in-range, page-in-range, pages, fields-in-range}
-use Rattle.laws.specs.Layouts.{of-mapping-kind, mapping-kind-le}
+use Rattle.laws.specs.Layouts.{of-mapping-kind, mapping-kind-ge, mapping-kind-le}
 use Rattle.laws.specs.Mappings.{span-in-range-le}
 use Rattle.kinds.specs.Places.{place-of}
 use Rattle.mappings.specs.Laws.Places.{span-at-held}
@@ -183,7 +183,7 @@ module _ (r : List ℕ) (bytes : (i : ℕ) → getD r i 0 < 256) where
 -- there are ten kinds of mappings, from 1 on
 pub kind-of-held : (r : List ℕ) → Held r → (1 ≤ mapping r .kind) × (mapping r .kind ≤ 10)
 unfolding mapping
-kind-of-held r held = (leb-true 1 (kind-of r) (of-mapping-kind (λ k. leb 1 k) refl (kind-of r) (held .known)), mapping-kind-le (kind-of r) (held .known))
+kind-of-held r held = (mapping-kind-ge (kind-of r) (held .known), mapping-kind-le (kind-of r) (held .known))
 
 mask-at-place : (k s : ℕ) → 1 ≤ k → s ≤ 4 → mask-at (5 * k + s - 5) ≡ mask k s
 mask-at-place k s some few = ap₂ mask (omega arith) (omega arith)
@@ -196,14 +196,6 @@ masks-of-record r bytes held k s is-kind is-span few =
     sym (halves r bytes (mask-at (5 * k + s - 5)))
     ∙ ap (λ (m : ℕ). eqb (bitAnd (number 16 0 r) m) 0) (mask-at-place k s (omega (arith, is-kind, kind-of-held r held .0)) few ∙ ap₂ mask is-kind is-span)
     ∙ mask-of-record r bytes held
-
--- no kind has a span above 4
-pub fields-of-far-span : (r : List ℕ) → 4 < mapping r .span → fields-in-range (mapping r) ≡ false
-fields-of-far-span r far = ranges-off (mapping r) (go (span-in-range (mapping r .kind) (mapping r .span)) refl)
-  where
-    go : (b : Bool) → span-in-range (mapping r .kind) (mapping r .span) ≡ b → b ≡ false
-    go true on = absurd (omega (arith, span-in-range-le (mapping r .kind) (mapping r .span) on))
-    go false off = refl
 
 -- a number that is none of the first n is n or more
 abbrev pub NoneOf : ℕ → ℕ → Type 0
