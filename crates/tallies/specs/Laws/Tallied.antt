@@ -7,7 +7,7 @@ use native.Mathlib.Omega.{arith}
 use borrow.Author.Tests.{leb-true, ltb-true}
 use lib.Dec.{eqb, leb, ltb}
 use lib.ListN.{length, getD, set, replicate, length-set}
-use lib.Seq.{set-getD}
+use lib.Seq.{getD-set-same, set-getD}
 use Rattle.model.specs.declared.Mapping.{Mapping}
 use Rattle.model.specs.Context.{pcid-in-range}
 use Rattle.model.specs.Layouts.{mapping-kind}
@@ -62,6 +62,16 @@ length-cells-without m cells = length-set cells (cell-of m) _
 pub length-pcids-without : (m : Mapping) (pcids : List ℕ) → length (pcids-without m pcids) ≡ length pcids
 unfolding pcids-without lowered-by
 length-pcids-without m pcids = length-pcids (guest-physical (m .kind)) pcids (m .pcid) _
+
+-- what `Countable` is for: a record that can be counted leaves counts of 16 bits, with its own one more
+module _ (part cells pcids : List ℕ) (h : Countable part cells pcids) where
+  pub cells-with-fits : getD (cells-with (mapping part) cells) (cell-of (mapping part)) 0 < 65536
+  unfolding cells-with raised-by
+  cells-with-fits = rw (getD-set-same cells (cell-of (mapping part)) (getD cells (cell-of (mapping part)) 0 + 1) 0 (omega (arith, h .strikable .long, h .strikable .place))) (omega (arith, h .strikable .few))
+
+  pub pcids-with-fits : getD (raised (mapping part .pcid) pcids) (mapping part .pcid) 0 < 65536
+  unfolding raised-by
+  pcids-with-fits = rw (getD-set-same pcids (mapping part .pcid) (getD pcids (mapping part .pcid) 0 + 1) 0 (h .strikable .pcid-place)) (omega (arith, h .pcid-few))
 
 -- ---- a record by its PCID, with no test of its kind
 
