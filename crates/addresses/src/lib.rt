@@ -1,4 +1,6 @@
 // Addresses, their pages, EP4TAs, and the cover test.
+#![tactic(auto)]
+
 ghost use Rattle.std.specs.Prelude.{◌≡◌};
 ghost use Rattle.model.specs.Mappings.{covers};
 ghost use Rattle.model.specs.Events.{canonical, page_of, guest_physical_page_of};

@@ -1,4 +1,6 @@
 // The answers that a context and an event alone give: 5 to 11. The lowest number that applies is given.
+#![tactic(auto)]
+
 ghost use Rattle.std.specs.Prelude.{cond, [], ◌∷◌, ◌≡◌};
 ghost use Rattle.model.specs.Context.{outside};
 ghost use Rattle.model.specs.Answers.{kind_number, invalid_opcode, exits, general_protection, event_answer, among, own_rule};

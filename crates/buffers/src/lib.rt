@@ -1,4 +1,6 @@
 // Bytes and numbers written into a buffer.
+#![tactic(auto)]
+
 ghost use Rattle.std.specs.Prelude.{◌≡◌, ◌+◌, ◌≤◌, length};
 ghost use Rattle.model.specs.Bits.{bytes};
 ghost use Rattle.model.specs.Buffers.{put};
@@ -9,7 +11,9 @@ pub fn put(part: &[u8], out: &mut [u8], at: usize) -> usize
     ensures value { result ≡ at + length part.now }
     ensures out_after { out.new ≡ put at part.now out.old }
 {
-    at + bytes::copy(part, &mut out[at..])
+    let end = at + part.len();
+    out[at..end].copy_from_slice(part);
+    end
 }
 
 // Writes a number as so many bytes of the buffer at a position, little-endian, and answers where they end.

@@ -6,6 +6,8 @@
 // converter the answer, the length and the new buffer; of a step beside a tally what a step has, with the counts before
 // the new buffer; of a fresh count the answer and the counts. The counts are the thirty by kind and span, those of the
 // four PCIDs that the card names, and the sum of all 4,096.
+#![tactic(auto)]
+
 ghost use Rattle.std.specs.Prelude.{◌+◌, ◌<◌, ◌≤◌, length};
 
 use flat_contexts::FlatContext;

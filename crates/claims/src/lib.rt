@@ -1,4 +1,6 @@
 // A claimed table after an event, judged: document 02, Ask 8.
+#![tactic(auto)]
+
 ghost use Rattle.std.specs.Prelude.{true, ◌≡◌, ◌≤◌, length, drop};
 ghost use Rattle.model.specs.Mappings.{mapping, Held};
 ghost use Rattle.model.specs.Tables.{whole, records};
@@ -13,7 +15,7 @@ use model::{Context, Event, EventReading, Reason};
 
 // What a claimed table is judged as: accepted; the event is refused, with its answer and the rule of the EPTP that goes
 // with it; the claim is malformed; or the byte position of the first claimed record that cannot be matched.
-#[derive(Drop)]
+#[derive(Clone, Copy)]
 pub enum Judgement {
     Accepted,
     Refused(u64, u64),
@@ -24,7 +26,7 @@ pub enum Judgement {
 // A judgement as numbers: 0 accepted, 1 refused, 2 malformed, 3 unmatched; and the answer, the rule and the position, 0
 // where it has none.
 #[repr(C)]
-#[derive(Drop)]
+#[derive(Clone, Copy)]
 pub struct Values {
     pub number: u64,
     pub answer: u64,

@@ -1,4 +1,6 @@
 // The context: its ranges, and what is current in it.
+#![tactic(auto)]
+
 ghost use Rattle.std.specs.Prelude.{◌≡◌};
 ghost use Rattle.model.specs.Context.{in_range, ept_in_range, place_in_range, in_guest, current_vpid, current_ept};
 ghost use Rattle.model.specs.Scopes.{is_current_ep4ta};

@@ -1,1 +1,2 @@
 // No code: whole runs beside a tally, and demand 3 of them, stand in specs/.
+#![tactic(auto)]

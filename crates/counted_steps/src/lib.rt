@@ -1,4 +1,6 @@
 // The step beside a tally: document 02, Ask 7. It is the step that users call.
+#![tactic(auto)]
+
 ghost use Rattle.std.specs.Prelude.{◌≡◌, true, [], ◌∷◌, ◌++◌, length};
 ghost use Rattle.model.specs.Events.{event};
 ghost use Rattle.model.specs.Answers.{first, valid_here, table_grounds};
@@ -8,7 +10,7 @@ use model::{Context, Event, EventReading, Step};
 use tally_rows::KindCounts;
 
 // What a step beside a tally reports, and the counts by kind and span after it.
-#[derive(Drop)]
+#[derive(Clone, Copy)]
 pub struct CountedStep {
     pub step: Step,
     pub kinds: [KindCounts; 6],
@@ -16,7 +18,7 @@ pub struct CountedStep {
 
 // What the old table of a step shows beside its tally: the answer to the event, with the rule of the EPTP that goes with
 // it; and where the answer is 0, how many records the table has, and their counts by kind and span.
-#[derive(Drop)]
+#[derive(Clone, Copy)]
 pub struct Shown {
     pub answer: u64,
     pub rule: u64,

@@ -1,4 +1,6 @@
 // What an event adds to a table: whether it is a creation, room for it, its bytes, and its count.
+#![tactic(auto)]
+
 ghost use Rattle.std.specs.Prelude.{◌≡◌, true, cond, ◌+◌, ◌≤◌, length};
 ghost use Rattle.model.specs.Buffers.{put};
 ghost use Rattle.model.specs.Layouts.{kind_of, mapping_kind};

@@ -1,4 +1,6 @@
 // The event reader: exactly one valid record, or none.
+#![tactic(auto)]
+
 ghost use Rattle.std.specs.Prelude.{◌≡◌, length};
 ghost use Rattle.model.specs.Layouts.{kind_of, body_of, length_of};
 ghost use Rattle.model.specs.Events.{operands, violation, entry, new_pcid, event, event_in_range, event_reading};

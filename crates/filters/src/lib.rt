@@ -1,4 +1,6 @@
 // The pass that writes the records of a table that an event does not drop.
+#![tactic(auto)]
+
 ghost use Rattle.std.specs.Prelude.{◌≡◌, true, ◌≤◌, length};
 ghost use Rattle.model.specs.Tables.{whole, records};
 ghost use Rattle.model.specs.Scopes.{passed, scope};
@@ -10,7 +12,7 @@ use model::{Context, Event};
 use queries::Query;
 
 // How long the records left are together, and how many were dropped.
-#[derive(Drop)]
+#[derive(Clone, Copy)]
 pub struct Filtered {
     pub length: usize,
     pub dropped: usize,

@@ -1,4 +1,6 @@
 // A table as rows of 32 bytes, and rows as a table: document 02, Ask 11.
+#![tactic(auto)]
+
 ghost use Rattle.std.specs.Prelude.{◌≡◌, true, ◌+◌, ◌%◌, ◌≤◌, length};
 ghost use Rattle.model.specs.Buffers.{put};
 ghost use Rattle.model.specs.Tables.{whole};
@@ -7,7 +9,7 @@ ghost use Rattle.fixed_rows.specs.FixedRows.{exported, exporting, exporting_writ
 // The answer; the number of the first bad row, from 1, where that is the ground, else 0; and how long the result is, 0
 // where the answer is not 0.
 #[repr(C)]
-#[derive(Drop)]
+#[derive(Clone, Copy)]
 pub struct Converted {
     pub answer: u64,
     pub row: u64,
@@ -69,7 +71,7 @@ pub fn export(width: u64, table: &[u8], rows: &mut [u8]) -> Converted
 }
 
 // The number of the first bad row, from 1, or 0; and where all rows are good, how long the table is that they make.
-#[derive(Drop)]
+#[derive(Clone, Copy)]
 struct JudgedRows {
     row: u64,
     length: usize,

@@ -1,4 +1,6 @@
 // Contexts as flat structs of numbers, for callers in other languages.
+#![tactic(auto)]
+
 ghost use Rattle.std.specs.Prelude.{cond, ◌≡◌};
 ghost use Rattle.flat_contexts.specs.Contexts.{is_known, unflatten, with_place, flatten};
 
@@ -7,7 +9,7 @@ use model::{Context, Ept, GuestPlace, Place};
 // A context as numbers. place: 0 outside, 1 root, 2 guest; vpid, ept and ep4ta are looked at in a guest
 // only, and ep4ta with ept 1 only. ept: 0 off, 1 on.
 #[repr(C)]
-#[derive(Drop)]
+#[derive(Clone, Copy)]
 pub struct FlatContext {
     pub capability: u64,
     pub width: u64,

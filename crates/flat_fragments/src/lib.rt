@@ -1,4 +1,6 @@
 // Readers and the calls on fragments as flat structs of numbers, for callers in other languages.
+#![tactic(auto)]
+
 ghost use Rattle.std.specs.Prelude.{cond, ◌≡◌, eqb, length};
 ghost use Rattle.flat_fragments.specs.Flat.{reader_of, flat_reader, as_read, flat_told, taken_as, flat_taken, flat_taken_pcids, flat_taken_written, flat_finished, flat_emptied};
 
@@ -11,7 +13,7 @@ use readers::Reader;
 // A reader as numbers: the number of the last event that was reported; whether fragments are ignored, 0 no and any other
 // number yes; how many bytes are held; and the places that hold them.
 #[repr(C)]
-#[derive(Drop)]
+#[derive(Clone, Copy)]
 pub struct FlatReader {
     pub line: u64,
     pub ignoring: u64,
@@ -22,7 +24,7 @@ pub struct FlatReader {
 // What a call leaves: the reader, how many bytes of the fragment it took, whether it finished an event (1) or not (0), and
 // of this event the step and the counts by kind and span after it.
 #[repr(C)]
-#[derive(Drop)]
+#[derive(Clone, Copy)]
 pub struct FlatTaken {
     pub reader: FlatReader,
     pub taken: usize,
@@ -33,7 +35,7 @@ pub struct FlatTaken {
 
 // What a finish call leaves: the reader, whether it reports an event (1) or not (0), and the answer to it.
 #[repr(C)]
-#[derive(Drop)]
+#[derive(Clone, Copy)]
 pub struct FlatFinished {
     pub reader: FlatReader,
     pub finished: u64,

@@ -1,5 +1,7 @@
 // The step and the lookup of two levels (document 02, Ask 10) as flat structs of numbers, for callers in other languages.
 // A place or EPT number that stands for nothing is answered 1.
+#![tactic(auto)]
+
 ghost use Rattle.std.specs.Prelude.{◌≡◌, cond, eqb};
 ghost use Rattle.flat_contexts.specs.Contexts.{flatten};
 ghost use Rattle.level_steps.specs.Levels.{handed};
@@ -12,7 +14,7 @@ use tally_rows::KindCounts;
 
 // What a step reports of one table: its length, its dropped count, and its counts by kind and span.
 #[repr(C)]
-#[derive(Drop)]
+#[derive(Clone, Copy)]
 pub struct FlatLevel {
     pub length: usize,
     pub dropped: usize,
@@ -21,7 +23,7 @@ pub struct FlatLevel {
 
 // What a step of two tables reports.
 #[repr(C)]
-#[derive(Drop)]
+#[derive(Clone, Copy)]
 pub struct FlatLevelStep {
     pub answer: u64,
     pub rule: u64,
@@ -32,7 +34,7 @@ pub struct FlatLevelStep {
 
 // The part of a table that a lookup in two tables finds: which table has it, 1 or 2; 0, 0 and 0 where there is none.
 #[repr(C)]
-#[derive(Drop)]
+#[derive(Clone, Copy)]
 pub struct FlatLevelPart {
     pub answer: u64,
     pub level: u64,

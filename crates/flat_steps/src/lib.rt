@@ -1,4 +1,6 @@
 // The result of a step, and the counts of a tally, as flat structs of numbers, for callers in other languages.
+#![tactic(auto)]
+
 ghost use Rattle.std.specs.Prelude.{◌≡◌};
 ghost use Rattle.flat_steps.specs.Steps.{refused, flat_result};
 
@@ -9,14 +11,14 @@ use tally_rows::KindCounts;
 // The counts of a tally by kind and span: a row for each of kinds 1 to 6; kinds 7, 8, 9 and 10 are counted in the rows
 // of 1, 3, 4 and 6.
 #[repr(C)]
-#[derive(Drop)]
+#[derive(Clone, Copy)]
 pub struct FlatKinds {
     pub rows: [KindCounts; 6],
 }
 
 // What a step reports.
 #[repr(C)]
-#[derive(Drop)]
+#[derive(Clone, Copy)]
 pub struct FlatStep {
     pub answer: u64,
     pub rule: u64,

@@ -1,4 +1,6 @@
 // The replay of a log in fragments of any length, cut anywhere: document 02, Ask 3.
+#![tactic(auto)]
+
 ghost use Rattle.std.specs.Prelude.{◌≡◌, length};
 ghost use Rattle.readers.specs.Readers.{emptied};
 ghost use Rattle.fragments.specs.Fragments.{untaken, taken_of, taken_pcids, taken_written, cut_answer, finished_of};
@@ -10,7 +12,7 @@ use tally_rows::KindCounts;
 // What a call leaves: the reader, how many bytes of the fragment it took, whether it finished an event, and of this event
 // the step and the counts by kind and span after it. Where it finished none, the step's numbers are 0, and its context and
 // the counts are as they came.
-#[derive(Drop)]
+#[derive(Clone, Copy)]
 pub struct Taken {
     pub reader: Reader,
     pub taken: usize,
@@ -20,7 +22,7 @@ pub struct Taken {
 }
 
 // What a finish call leaves: the reader, whether it reports an event, and the answer to it, 0 where there is none.
-#[derive(Drop)]
+#[derive(Clone, Copy)]
 pub struct Finished {
     pub reader: Reader,
     pub finished: bool,

@@ -1,5 +1,7 @@
 // The ground that is an event's own: 7 to 11, of its operands, its place, its fields or its tags; and which rule of an
 // EPTP it is.
+#![tactic(auto)]
+
 ghost use Rattle.std.specs.Prelude.{cond, ◌≡◌, ◌/◌, ◌^◌, eqb};
 ghost use Rattle.model.specs.Context.{in_root};
 ghost use Rattle.model.specs.Answers.{eptp_rule, good_eptp, invvpid_supported, bad_invvpid, invept_supported, bad_invept, bad_invpcid, ept_in_use, bad_entry, creatable, own_ground, own_rule};

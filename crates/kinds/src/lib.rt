@@ -2,6 +2,8 @@
 // span and EP4TA stand, its sort, whether it is a structure cache, and of which linear width it is. A test takes any
 // number and holds of no unknown kind. A table mixes its kinds, so what is asked of a kind is read by shifts and not by
 // branches.
+#![tactic(auto)]
+
 ghost use Rattle.std.specs.Prelude.{◌≡◌, true, cond, not, ◌&&◌, ◌<◌};
 ghost use Rattle.model.specs.Bits.{bit};
 ghost use Rattle.model.specs.Layouts.{Field, mapping_kind, event_kind, length_of};

@@ -1,1 +1,2 @@
 // No code: moments, owners, leaks and what is proved of them stand in specs/.
+#![tactic(auto)]

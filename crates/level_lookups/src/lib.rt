@@ -1,11 +1,13 @@
 // The lookup in two tables, a small first-level one before a large second-level one: document 02, Ask 10.
+#![tactic(auto)]
+
 ghost use Rattle.std.specs.Prelude.{◌≡◌, ◌+◌, cond, eqb};
 ghost use Rattle.level_lookups.specs.Levels.{lookup_levels_answer, lookup_levels, lookup_levels_level, lookup_levels_start, found_in, Stands};
 
 use model::Context;
 
 // The answer to a lookup, which table has the translation (1 or 2, 0 for none), and where it starts and ends there.
-#[derive(Drop)]
+#[derive(Clone, Copy)]
 pub struct FoundInLevels {
     pub answer: u64,
     pub level: u64,

@@ -1,1 +1,2 @@
 // No code: whole runs of two levels, and demand 3 of each, stand in specs/.
+#![tactic(auto)]

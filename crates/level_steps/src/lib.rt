@@ -1,4 +1,6 @@
 // The step of two tables, a small first-level one before a large second-level one: document 02, Ask 10.
+#![tactic(auto)]
+
 ghost use Rattle.std.specs.Prelude.{◌≡◌};
 ghost use Rattle.level_steps.specs.Levels.{handed, level_of, levels_refusal, levels_stepped, first_pcids, first_written, second_pcids, second_written};
 
@@ -7,7 +9,7 @@ use model::{Context, EventReading};
 use tally_rows::KindCounts;
 
 // What a step reports of one table: its length and its dropped count, and the counts by kind and span after it.
-#[derive(Drop)]
+#[derive(Clone, Copy)]
 pub struct Level {
     pub length: usize,
     pub dropped: usize,
@@ -15,7 +17,7 @@ pub struct Level {
 }
 
 // What a step of two tables reports: the answer and the rule of the EPTP that goes with it, the context, and each table.
-#[derive(Drop)]
+#[derive(Clone, Copy)]
 pub struct LevelStep {
     pub answer: u64,
     pub rule: u64,

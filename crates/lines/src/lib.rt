@@ -1,4 +1,6 @@
 // A replay's lines as text: four decimal numbers, parted by one space, and a line end.
+#![tactic(auto)]
+
 ghost use Rattle.std.specs.Prelude.{◌≡◌, ◌+◌, ◌≤◌, length};
 ghost use Rattle.model.specs.Buffers.{put};
 ghost use Rattle.lines.specs.Text.{line_limit, field, line_text};

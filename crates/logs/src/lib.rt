@@ -1,4 +1,6 @@
 // The replay of a log: its events one by one from a reset, the table in one of two buffers.
+#![tactic(auto)]
+
 ghost use Rattle.std.specs.Prelude.{◌≡◌, ◌+◌, ◌≤◌, ◌<◌, length};
 ghost use Rattle.model.specs.Buffers.{put};
 ghost use Rattle.model.specs.Tables.{limit};
@@ -11,7 +13,7 @@ use states::State;
 
 // What a replay leaves: the context, the length of the table in force, whether the first of the two
 // buffers holds it, and how many lines were reported.
-#[derive(Drop)]
+#[derive(Clone, Copy)]
 pub struct Replayed {
     pub context: Context,
     pub length: usize,
@@ -20,7 +22,7 @@ pub struct Replayed {
 }
 
 // How far a replay is: the state, the position in the log, and how many events were taken.
-#[derive(Drop)]
+#[derive(Clone, Copy)]
 pub struct Progress {
     pub state: State,
     pub at: usize,
@@ -28,7 +30,7 @@ pub struct Progress {
 }
 
 // How far a replay is after an event, and its answer and dropped count.
-#[derive(Drop)]
+#[derive(Clone, Copy)]
 pub struct Advanced {
     pub progress: Progress,
     pub answer: u64,

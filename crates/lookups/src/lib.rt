@@ -1,4 +1,6 @@
 // The lookup of demand 2: the k-th usable record of a table at an address.
+#![tactic(auto)]
+
 ghost use Rattle.std.specs.Prelude.{◌≡◌, length, Bool, true, ℕ, ◌+◌};
 ghost use Rattle.model.specs.Mappings.{mapping, Held};
 ghost use Rattle.model.specs.Tables.{whole};
@@ -10,7 +12,7 @@ ghost use Rattle.lookups.specs.Search.{kinds_with, of_kind_and_vpid, of_pcid_and
 use model::{Address, Context, Ept};
 
 // What a lookup asks of each record. A field that the kind does not have is 0.
-#[derive(Drop)]
+#[derive(Clone, Copy)]
 pub struct Sought {
     // the VPID; the kinds that are usable with it, bit k for kind k, and those with any other
     vpid: u64,
@@ -144,7 +146,7 @@ fn is_sought(s: Sought, part: &[u8]) -> bool
 }
 
 // Where a record starts and ends in a table.
-#[derive(Drop)]
+#[derive(Clone, Copy)]
 pub struct Part {
     pub start: usize,
     pub end: usize,
@@ -182,7 +184,7 @@ pub fn answer_to_lookup(c: Context, table: &[u8]) -> u64
 }
 
 // The answer to a lookup, and where the record starts and ends in the table.
-#[derive(Drop)]
+#[derive(Clone, Copy)]
 pub struct Found {
     pub answer: u64,
     pub start: usize,

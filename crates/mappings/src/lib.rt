@@ -1,5 +1,7 @@
 // Mapping records: the single fields of a record. A record is handed in as the part of the table that starts at its kind
 // byte; what follows the record is not looked at.
+#![tactic(auto)]
+
 ghost use Rattle.std.specs.Prelude.{false, ◌≡◌};
 ghost use Rattle.model.specs.Bits.{number};
 ghost use Rattle.model.specs.Layouts.{kind_of, length_of};

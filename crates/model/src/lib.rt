@@ -1,5 +1,6 @@
 // The values that the definitions of document 01 and the code share. The definitions themselves
 // stand in specs/, in the order of the document.
+#![tactic(auto)]
 
 // The longest table, in bytes.
 pub const TABLE_LIMIT: usize = 47104;
@@ -32,7 +33,7 @@ pub const NARROW_WIDTH: u64 = 48;
 pub const WIDE_WIDTH: u64 = 57;
 
 // Document 01, "Context". Every field takes any number: one out of its range is answered 1.
-#[derive(Drop)]
+#[derive(Clone, Copy)]
 pub struct Context {
     // IA32_VMX_EPT_VPID_CAP
     pub capability: u64,
@@ -45,14 +46,14 @@ pub struct Context {
     pub place: Place,
 }
 
-#[derive(Drop)]
+#[derive(Clone, Copy)]
 pub enum Place {
     Outside,
     Root,
     Guest(GuestPlace),
 }
 
-#[derive(Drop)]
+#[derive(Clone, Copy)]
 pub struct GuestPlace {
     // 0 exactly if VPIDs were not enabled at entry
     pub vpid: u64,
@@ -60,14 +61,14 @@ pub struct GuestPlace {
 }
 
 // EPT is not in use, or in use with an EP4TA: bits 51 to 12 of the EPTP.
-#[derive(Drop)]
+#[derive(Clone, Copy)]
 pub enum Ept {
     Off,
     On(u64),
 }
 
 // Document 01, "Mapping records". A field that the kind does not have is 0.
-#[derive(Drop)]
+#[derive(Clone, Copy)]
 pub struct Mapping {
     pub kind: u64,
     pub vpid: u64,
@@ -81,7 +82,7 @@ pub struct Mapping {
 }
 
 // Document 01, "Events", and document 02, Ask 5, with the fields of each.
-#[derive(Drop)]
+#[derive(Clone, Copy)]
 pub enum Event {
     Creation(Mapping),
     Invvpid(Operands),
@@ -99,7 +100,7 @@ pub enum Event {
 }
 
 // The operands of INVVPID, INVEPT and INVPCID: the type, and the descriptor's two quadwords.
-#[derive(Drop)]
+#[derive(Clone, Copy)]
 pub struct Operands {
     pub type_number: u64,
     pub low: u64,
@@ -107,7 +108,7 @@ pub struct Operands {
 }
 
 // An EPT violation: the guest-physical address, and with flag 1 the linear address behind it.
-#[derive(Drop)]
+#[derive(Clone, Copy)]
 pub struct Violation {
     pub physical: u64,
     pub flag: u64,
@@ -115,7 +116,7 @@ pub struct Violation {
 }
 
 // A VM entry: vpids and ept are the two enable flags.
-#[derive(Drop)]
+#[derive(Clone, Copy)]
 pub struct Entry {
     pub vpids: u64,
     pub vpid: u64,
@@ -125,14 +126,14 @@ pub struct Entry {
     pub cpl: u64,
 }
 
-#[derive(Drop)]
+#[derive(Clone, Copy)]
 pub struct NewPcid {
     pub pcid: u64,
     pub cpl: u64,
 }
 
 // What the event reader answers: the event, or that the bytes are not exactly one valid record.
-#[derive(Drop)]
+#[derive(Clone, Copy)]
 pub enum EventReading {
     Read(Event),
     Invalid,
@@ -140,7 +141,7 @@ pub enum EventReading {
 
 // Document 02, Ask 1: what an accepted event says of a mapping, in the order in which it is asked. The
 // mapping is dropped with the last alone.
-#[derive(Drop)]
+#[derive(Clone, Copy)]
 pub enum Reason {
     NoScope,
     NotCanonical,
@@ -155,14 +156,14 @@ pub enum Reason {
 
 // Why an event drops a mapping or leaves it: the step is refused with its answer and the rule of the EPTP that goes
 // with it, or it is accepted and the reason decides.
-#[derive(Drop)]
+#[derive(Clone, Copy)]
 pub enum Explanation {
     Refused(u64, u64),
     Accepted(Reason),
 }
 
 // What a lookup asks for.
-#[derive(Drop)]
+#[derive(Clone, Copy)]
 pub enum Address {
     Linear(u64),
     GuestPhysical(u64),
@@ -170,7 +171,7 @@ pub enum Address {
 
 // What a step reports: the answer's number, the rule of the EPTP that is broken where that is the ground of 8 or 10
 // (else 0), the context after it, the length of the new table and how many records were dropped.
-#[derive(Drop)]
+#[derive(Clone, Copy)]
 pub struct Step {
     pub answer: u64,
     pub rule: u64,

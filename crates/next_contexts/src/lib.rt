@@ -1,4 +1,6 @@
 // The context after an event.
+#![tactic(auto)]
+
 ghost use Rattle.std.specs.Prelude.{◌≡◌};
 ghost use Rattle.model.specs.Context.{moved, after_reset};
 ghost use Rattle.model.specs.Scopes.{entered, next_context};

@@ -1,4 +1,6 @@
 // Little-endian numbers in bytes. Every function reads only the bytes that it names.
+#![tactic(auto)]
+
 ghost use Rattle.std.specs.Prelude.{◌≡◌, ◌+◌, ◌<◌, ◌≤◌, ◌^◌, length};
 ghost use Rattle.model.specs.Bits.{number};
 ghost use Rattle.model.specs.Layouts.{kind_of};

@@ -1,1 +1,2 @@
 // No code: another's page, the second sort of leak, and what is proved of it stand in specs/.
+#![tactic(auto)]

@@ -1,6 +1,8 @@
 // What an event asks of each record of a table, as data that is worked out once, and whether a record passes.
 // A record is handed in as the part of the table that starts at its kind byte, and only the fields that are
 // asked for are read.
+#![tactic(auto)]
+
 ghost use Rattle.std.specs.Prelude.{◌≡◌};
 ghost use Rattle.model.specs.Mappings.{mapping, Held};
 ghost use Rattle.model.specs.Scopes.{passed};
@@ -10,7 +12,7 @@ ghost use Rattle.queries.specs.Queries.{touching, any, only, all_but, no_tags, t
 use model::Reason;
 
 // The tags that are touched, of VPIDs, PCIDs or EP4TAs: whether one tag is, and whether all others are.
-#[derive(Drop)]
+#[derive(Clone, Copy)]
 pub struct Tags {
     pub tag: u64,
     pub same: bool,
@@ -18,7 +20,7 @@ pub struct Tags {
 }
 
 // The tests that an event puts to a record.
-#[derive(Drop)]
+#[derive(Clone, Copy)]
 pub struct Query {
     // the kinds that are touched: bit k is set for kind k
     pub kinds: u64,
@@ -236,7 +238,7 @@ fn is_passing_further(q: Query, part: &[u8]) -> bool
 }
 
 // The kinds that are touched beside one VPID, and beside any other; bit k for kind k.
-#[derive(Drop)]
+#[derive(Clone, Copy)]
 pub struct KindsByVpid {
     pub vpid: u64,
     pub same: u64,

@@ -1,10 +1,12 @@
 // What is kept of a log between two of its fragments: document 02, Ask 3.
+#![tactic(auto)]
+
 ghost use Rattle.std.specs.Prelude.{◌≡◌, ◌+◌, ◌≤◌, length, take};
 ghost use Rattle.readers.specs.Readers.{First, complete, counts_as_ignoring, next_line, holding, read_on, ended, emptied, Together};
 
 // The number of the last event that was reported, 0 at the start; whether later fragments are ignored; and the bytes of
 // an unfinished event, the first so many of those held.
-#[derive(Drop)]
+#[derive(Clone, Copy)]
 pub struct Reader {
     pub line: u64,
     pub ignoring: bool,
@@ -13,14 +15,14 @@ pub struct Reader {
 }
 
 // The first event of some bytes: how many bytes it has, and whether its kind is known.
-#[derive(Drop)]
+#[derive(Clone, Copy)]
 pub struct Start {
     pub size: usize,
     pub known: bool,
 }
 
 // The bytes held and those of a fragment behind them, the first 25 at most, and how many these are.
-#[derive(Drop)]
+#[derive(Clone, Copy)]
 pub struct Gathered {
     pub bytes: [u8; 25],
     pub length: usize,

@@ -1,4 +1,6 @@
 // Why an event drops a mapping or leaves it: document 02, Ask 1.
+#![tactic(auto)]
+
 ghost use Rattle.std.specs.Prelude.{◌≡◌};
 ghost use Rattle.model.specs.Reasons.{explanation, reason_number, explanation_number, explanation_answer, explanation_rule};
 

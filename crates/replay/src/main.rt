@@ -1,4 +1,6 @@
 // Replays the log that standard input holds, and writes the text of it (crate texts).
+#![tactic(auto)]
+
 ghost use Rattle.std.specs.Prelude.{◌≤◌, length};
 ghost use Rattle.io.specs.Counts.{IsPrefixLen};
 ghost use Rattle.lines.specs.Text.{line_limit};
@@ -6,7 +8,7 @@ ghost use Rattle.lines.specs.Text.{line_limit};
 use libc::{STDERR_FILENO, STDIN_FILENO, STDOUT_FILENO};
 
 // What reading a log gave: whether a read failed, and how many bytes there are.
-#[derive(Drop)]
+#[derive(Clone, Copy)]
 struct Input {
     is_failed: bool,
     size: usize,
@@ -63,7 +65,7 @@ fn write_text(log: &[u8], first: &mut [u8], second: &mut [u8], text: &mut [u8])
 }
 
 // Where the run ends: the position in the log, from 0, and the number of the event there, from 1.
-#[derive(Drop)]
+#[derive(Clone, Copy)]
 struct End {
     at: usize,
     event: usize,

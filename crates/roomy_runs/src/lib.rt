@@ -1,1 +1,2 @@
 // No code: the book with room, the run with lent room and what is proved of them stand in specs/.
+#![tactic(auto)]

@@ -1,4 +1,6 @@
 // One row of 32 bytes and the record that it names: document 02, Ask 11.
+#![tactic(auto)]
+
 ghost use Rattle.std.specs.Prelude.{◌≡◌, true, ◌+◌, ◌≤◌, ◌<◌, ◌++◌, length};
 ghost use Rattle.model.specs.Bits.{bytes};
 ghost use Rattle.model.specs.Buffers.{put};
@@ -53,7 +55,7 @@ fn mapping_named(row: &[u8]) -> Mapping
 }
 
 // Bits that must be 0 in a row: of its first eight bytes, of its page and of its EP4TA.
-#[derive(Drop)]
+#[derive(Clone, Copy)]
 struct Mask(u64, u64, u64);
 
 // The masks, five for each kind from 1 on, by span. Where the kind may not have the span, the mask is that of the kind byte,

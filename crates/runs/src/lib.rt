@@ -1,2 +1,3 @@
 // No code: the book, the runs and the theorem of demand 3 stand in specs/. The code that replays a log
 // is the crate `logs`.
+#![tactic(auto)]

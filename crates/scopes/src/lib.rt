@@ -1,4 +1,6 @@
 // The required scope of each event: whether it has one, and what it asks of a record.
+#![tactic(auto)]
+
 ghost use Rattle.std.specs.Prelude.{cond, ◌≡◌, eqb, leb};
 ghost use Rattle.model.specs.Mappings.{mapping, Held};
 ghost use Rattle.model.specs.Scopes.{vpid_named, no_tests, invvpid_tests, invept_tests, invlpg_tests, violation_tests, transition_tests, pcid_named, invpcid_tests, mov_to_cr3_tests, asked, has_scope};

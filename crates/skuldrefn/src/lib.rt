@@ -1,5 +1,7 @@
 // The model for programs in C and Rust: functions on numbers, byte slices and flat structs. A context
 // is handed in as numbers; a place or EPT number that stands for nothing is answered 1.
+#![tactic(auto)]
+
 ghost use Rattle.std.specs.Prelude.{◌≤◌, ◌≡◌, length, cond};
 ghost use Rattle.widening.specs.Widening.{widening, widening_written};
 ghost use Rattle.fixed_rows.specs.FixedRows.{exporting, exporting_written, importing, importing_written};
@@ -22,7 +24,7 @@ use widening::Widened;
 
 // What a step beside a tally reports.
 #[repr(C)]
-#[derive(Drop)]
+#[derive(Clone, Copy)]
 pub struct FlatCountedStep {
     pub step: FlatStep,
     pub kinds: FlatKinds,
@@ -89,7 +91,7 @@ pub extern "C" fn skuldrefn_plain_step(
 
 // A fresh count of a table: the answer, and the counts by kind and span.
 #[repr(C)]
-#[derive(Drop)]
+#[derive(Clone, Copy)]
 pub struct FlatCounts {
     pub answer: u64,
     pub kinds: FlatKinds,
@@ -113,7 +115,7 @@ pub extern "C" fn skuldrefn_count(linear_width: u64, table: &[u8], pcids: &mut [
 
 // A part of a table, with the answer to the lookup. Start and length are 0 where the part is empty.
 #[repr(C)]
-#[derive(Drop)]
+#[derive(Clone, Copy)]
 pub struct FlatPart {
     pub answer: u64,
     pub start: usize,
@@ -223,7 +225,7 @@ pub extern "C" fn skuldrefn_lookup_levels(
 // 1 refused, 2 no scope, 3 not canonical, 4 wrong kind, 5 wrong VPID, 6 wrong PCID, 7 wrong EP4TA,
 // 8 not covering, 9 spared as global, 10 in scope.
 #[repr(C)]
-#[derive(Drop)]
+#[derive(Clone, Copy)]
 pub struct FlatReason {
     pub reason: u64,
     pub answer: u64,
@@ -301,7 +303,7 @@ pub extern "C" fn skuldrefn_judge(
 // What a walk answers: how it ended and where, as numbers; how many entries it read; and the kind 3 record, all 0 where it
 // met a ground.
 #[repr(C)]
-#[derive(Drop)]
+#[derive(Clone, Copy)]
 pub struct FlatWalk {
     pub ending: walks::Values,
     pub read: u64,
@@ -357,7 +359,7 @@ pub extern "C" fn skuldrefn_event_length(linear_width: u64, log: &[u8]) -> usize
 // What a replay leaves: the context, the length of the table in force, whether the first of the two
 // buffers holds it (1) or the second (0), and how many rows were written.
 #[repr(C)]
-#[derive(Drop)]
+#[derive(Clone, Copy)]
 pub struct FlatReplayed {
     pub context: FlatContext,
     pub length: usize,

@@ -1,1 +1,2 @@
 // No code: stale mappings, the third sort of finding, and what is proved of them stand in specs/.
+#![tactic(auto)]

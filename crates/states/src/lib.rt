@@ -1,4 +1,6 @@
 // The context and the table in force, the table in one of two buffers, and one event on them.
+#![tactic(auto)]
+
 ghost use Rattle.std.specs.Prelude.{true, ◌≡◌, ◌+◌, ◌≤◌, length, take};
 ghost use Rattle.model.specs.Buffers.{put};
 ghost use Rattle.model.specs.Context.{in_range};
@@ -12,7 +14,7 @@ ghost use Rattle.states.specs.Outcomes.{refused, extended, exchanged};
 use model::{Context, Event, EventReading};
 
 // The context in force, and the table: the first bytes of one of the two buffers, and how many records they are.
-#[derive(Drop)]
+#[derive(Clone, Copy)]
 pub struct State {
     pub context: Context,
     pub length: usize,
@@ -21,7 +23,7 @@ pub struct State {
 }
 
 // The state after an event, and its answer and dropped count.
-#[derive(Drop)]
+#[derive(Clone, Copy)]
 pub struct Applied {
     pub state: State,
     pub answer: u64,

@@ -1,4 +1,6 @@
 // The step: one event on a context and a table, written into a second buffer.
+#![tactic(auto)]
+
 ghost use Rattle.std.specs.Prelude.{◌≡◌, true, ◌+◌, ◌≤◌, length};
 ghost use Rattle.model.specs.Buffers.{put};
 ghost use Rattle.model.specs.Tables.{records};
@@ -25,7 +27,7 @@ fn refused(answer: u64, rule: u64, context: Context) -> Step
 }
 
 // How long a new table is, and how many records were dropped.
-#[derive(Drop)]
+#[derive(Clone, Copy)]
 pub struct Performed {
     pub length: usize,
     pub dropped: usize,
@@ -78,7 +80,7 @@ pub fn accepted(c: Context, e: Event, performed: Performed) -> Step
 }
 
 // Why a step is refused: its answer, and the rule of the EPTP that goes with it; 0 and 0 where the event is accepted.
-#[derive(Drop)]
+#[derive(Clone, Copy)]
 pub struct Ground {
     pub answer: u64,
     pub rule: u64,

@@ -1,4 +1,6 @@
 // The walk over a table: whole, valid records of a linear width or not, and the answers 1 to 3.
+#![tactic(auto)]
+
 ghost use Rattle.std.specs.Prelude.{◌≡◌, true, [], ◌≤◌, length};
 ghost use Rattle.model.specs.Tables.{limit, records};
 ghost use Rattle.model.specs.Answers.{first, valid_table, stored_grounds, table_grounds};
@@ -12,14 +14,14 @@ use model::Context;
 use tally_rows::KindCounts;
 
 // What a walk over a table passed: bytes, and records.
-#[derive(Drop)]
+#[derive(Clone, Copy)]
 struct Passed {
     bytes: usize,
     records: usize,
 }
 
 // The answer to a table, and how many records it has.
-#[derive(Drop)]
+#[derive(Clone, Copy)]
 pub struct Judged {
     pub answer: u64,
     pub records: usize,
@@ -102,7 +104,7 @@ pub fn is_one_record(width: u64, bytes: &[u8]) -> bool
 
 // What judging a table beside a tally tells: the answer and the number of records as above, whether the tally has the
 // counts of the table, and the counts by kind and span. Where the answer is not 0 it has not, and the counts are 0.
-#[derive(Drop)]
+#[derive(Clone, Copy)]
 pub struct CountedJudged {
     pub answer: u64,
     pub records: usize,
@@ -160,7 +162,7 @@ pub fn judge_counted(
 }
 
 // A fresh count of a table: the answer, and the counts by kind and span.
-#[derive(Drop)]
+#[derive(Clone, Copy)]
 pub struct TableCounts {
     pub answer: u64,
     pub kinds: [KindCounts; 6],

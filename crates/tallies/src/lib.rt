@@ -1,4 +1,6 @@
 // Counts of the records of a table, by kind and span and by PCID: document 02, Ask 7.
+#![tactic(auto)]
+
 ghost use Rattle.std.specs.Prelude.{◌≡◌, ◌+◌, ◌*◌, ◌<◌, ◌≤◌, true, length, replicate, slice_index};
 ghost use Rattle.model.specs.Mappings.{mapping, Held};
 ghost use Rattle.model.specs.Layouts.{mapping_kind};

@@ -1,10 +1,12 @@
 // The six rows of a tally, as users hold it: stored from counts, and compared with them. Document 02, Ask 7.
+#![tactic(auto)]
+
 ghost use Rattle.std.specs.Prelude.{◌≡◌, ◌&&◌, [], ◌≤◌, ◌+◌, length};
 ghost use Rattle.tally_rows.specs.Rows.{kind_counts, same, same_kinds, none_left, row_from, rows_of};
 
 // The records of one of the six kinds, by span, 0 to 4.
 #[repr(C)]
-#[derive(Drop)]
+#[derive(Clone, Copy)]
 pub struct KindCounts {
     pub spans: [u16; 5],
 }

@@ -1,4 +1,6 @@
 // The text that the replay program prints of a log, piece by piece.
+#![tactic(auto)]
+
 ghost use Rattle.std.specs.Prelude.{◌≡◌, ◌≤◌, length};
 ghost use Rattle.lines.specs.Text.{line_limit};
 ghost use Rattle.logs.specs.Logs.{program};
@@ -14,7 +16,7 @@ pub const LOG_LIMIT: usize = 65536;
 const LINE_LIMIT: usize = 84;
 
 // How far the replay is after a piece of the text, and the length of the piece.
-#[derive(Drop)]
+#[derive(Clone, Copy)]
 pub struct Piece {
     pub progress: Progress,
     pub length: usize,

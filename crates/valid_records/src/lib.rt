@@ -1,12 +1,14 @@
 // The record reader: whether the fields of a record are in their ranges, and the length of a valid record. A record is
 // handed in as the part of the table that starts at its kind byte; what follows the record is not looked at.
+#![tactic(auto)]
+
 ghost use Rattle.std.specs.Prelude.{◌≡◌, ◌/◌, ◌%◌, ◌^◌, ◌<◌};
 ghost use Rattle.model.specs.Mappings.{mapping, Held, fields_in_range};
 ghost use Rattle.valid_records.specs.Masks.{mask_at};
 ghost use Rattle.valid_records.specs.Lengths.{length_at};
 
 // Bits that must be 0: of a record's first eight bytes, and of its next eight.
-#[derive(Drop)]
+#[derive(Clone, Copy)]
 struct Mask(u64, u64);
 
 // The masks, five for each kind from 1 on, by span. Where the kind may not have the span, the mask is that of the kind byte,

@@ -1,4 +1,6 @@
 // A walk of the guest's tables through EPT, and the translation that may be cached: document 02, Ask 13.
+#![tactic(auto)]
+
 ghost use Rattle.std.specs.Prelude.{◌≡◌, true, min, ◌+◌, ◌-◌, ◌*◌, ◌≤◌, ◌<◌, ◌^◌, length};
 ghost use Rattle.model.specs.Bits.{number};
 ghost use Rattle.walks.specs.Walks.{memory, index, held, guest_present, ept_present, large, in_page, rounded, reached, ept_from, ept_walk, translation, final_from, through_ept, guest_from, walk_in, combined_record, record_of, walk_of, spot, values, ending_values};
@@ -7,7 +9,7 @@ use model::Context;
 
 // Where a ground was met: at which level of the guest's tables (4 to 1, 0 for the final address), at which level of the
 // EPT tables (4 to 1, 0 for the guest's own entry or address), and the address that it is about.
-#[derive(Drop)]
+#[derive(Clone, Copy)]
 pub struct Spot {
     pub guest_level: u64,
     pub ept_level: u64,
@@ -15,7 +17,7 @@ pub struct Spot {
 }
 
 // What a walk works out: span, page, frame and global mark of the combined translation.
-#[derive(Drop)]
+#[derive(Clone, Copy)]
 pub struct Translation {
     pub span: u64,
     pub page: u64,
@@ -25,7 +27,7 @@ pub struct Translation {
 
 // How a walk ends: with a translation, or with the first ground met. A bad EPTP tells the rule that it breaks, an absent
 // entry and one outside the image their physical address, and TooHigh the guest-physical address of 2^48 or more.
-#[derive(Drop)]
+#[derive(Clone, Copy)]
 pub enum Ending {
     Translated(Translation),
     ContextOutOfRange,
@@ -37,14 +39,14 @@ pub enum Ending {
 }
 
 // How a walk ends, and how many entries it has read.
-#[derive(Drop)]
+#[derive(Clone, Copy)]
 pub struct Walked {
     pub ending: Ending,
     pub read: u64,
 }
 
 // A physical address in a page of the span, and how many entries were read up to there.
-#[derive(Drop)]
+#[derive(Clone, Copy)]
 pub struct Physical {
     pub address: u64,
     pub span: u64,
@@ -52,7 +54,7 @@ pub struct Physical {
 }
 
 // What comes of an address that goes through EPT.
-#[derive(Drop)]
+#[derive(Clone, Copy)]
 pub enum Through {
     Reached(Physical),
     Stopped(Walked),
@@ -60,7 +62,7 @@ pub enum Through {
 
 // What a walk answers: how it ends, how many entries it read, at most 24, and the kind 3 record, all 0 where it met a
 // ground.
-#[derive(Drop)]
+#[derive(Clone, Copy)]
 pub struct Outcome {
     pub ending: Ending,
     pub read: u64,
@@ -438,7 +440,7 @@ pub fn walk(
 // guest-physical address of 2^48 or more, 6 read outside the image; the rule of a bad EPTP, and where a ground was met, 0
 // where it has none.
 #[repr(C)]
-#[derive(Drop)]
+#[derive(Clone, Copy)]
 pub struct Values {
     pub number: u64,
     pub rule: u64,

@@ -1,4 +1,6 @@
 // The converter of a stored 48-bit table to a 57-bit one: document 02, Ask 12.
+#![tactic(auto)]
+
 ghost use Rattle.std.specs.Prelude.{◌≡◌, true, ◌+◌, ◌^◌, ◌≤◌, ◌<◌, length};
 ghost use Rattle.model.specs.Buffers.{put};
 ghost use Rattle.model.specs.Layouts.{kind_of};
@@ -8,7 +10,7 @@ ghost use Rattle.widening.specs.Widening.{widened_kind, widened_page, rewritten,
 
 // The answer, and how long the 57-bit table is; 0 where the answer is not 0.
 #[repr(C)]
-#[derive(Drop)]
+#[derive(Clone, Copy)]
 pub struct Widened {
     pub answer: u64,
     pub length: usize,

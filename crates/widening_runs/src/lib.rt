@@ -1,1 +1,2 @@
 // No code: that widening is a simulation, step by step and over whole runs, stands in specs/.
+#![tactic(auto)]
