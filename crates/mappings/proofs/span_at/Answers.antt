@@ -1,0 +1,13 @@
+-- The number of its kind is where the layout has the span.
+use Rattle.model.specs.Mappings.{mapping}
+use Rattle.mappings.specs.Laws.Places.{span_at_held}
+use Rattle.mappings.proofs.span_at.Goals as goal
+
+pub place_of_span-requires : goal.place_of_span-requires
+unfolding mapping
+place_of_span-requires c = rw c.kind.ensures c.requires.known
+
+pub returns : goal.returns
+unfolding mapping
+returns c =
+    rw (c.place_of_span.ensures, c.kind.ensures) (span_at_held _ c.requires)

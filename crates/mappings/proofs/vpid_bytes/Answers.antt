@@ -1,0 +1,12 @@
+-- All but guest-physical mappings have the VPID there.
+use mathlib.Core.Path.{◌∙◌, sym}
+use native.Mathlib.Omega.{arith}
+use Rattle.laws.specs.Mappings.{held_length, vpid_held}
+use Rattle.mappings.proofs.vpid_bytes.Goals as goal
+
+pub number2-requires : goal.number2-requires
+number2-requires c = omega (arith, held_length _ c.requires)
+
+pub returns : goal.returns
+returns c =
+    record { value = c.number2.ensures.0; value_2 = λ tagged. c.number2.ensures.0 ∙ sym (vpid_held _ c.requires ∙ rw tagged) }

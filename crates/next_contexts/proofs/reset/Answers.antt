@@ -1,0 +1,6 @@
+use Rattle.model.specs.Context.{after_reset}
+use Rattle.next_contexts.proofs.reset.Goals as goal
+
+pub returns : goal.returns
+unfolding after_reset
+returns c = c.moved_to.ensures

@@ -1,0 +1,7 @@
+-- The EP4TA by its function.
+use Rattle.scopes.specs.Laws.Queries.{meets_invept}
+use Rattle.scopes.proofs.invept_query.Goals as goal
+
+pub returns : goal.returns
+returns c =
+    rw (c.any-any.ensures, c.only-ep4ta.ensures, c.ep4ta.ensures) (meets_invept _)

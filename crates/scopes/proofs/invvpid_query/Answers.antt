@@ -1,0 +1,7 @@
+-- The VPIDs and the page by their functions.
+use Rattle.scopes.specs.Laws.Queries.{meets_invvpid}
+use Rattle.scopes.proofs.invvpid_query.Goals as goal
+
+pub returns : goal.returns
+returns c =
+    rw (c.any-any.ensures, c.vpids_named-vpid.ensures, c.page.ensures) (meets_invvpid _ _)

@@ -1,0 +1,6 @@
+-- VPID 0.
+use Rattle.scopes.specs.Laws.Queries.{meets_transition}
+use Rattle.scopes.proofs.transition_query.Goals as goal
+
+pub returns : goal.returns
+returns c = rw (c.any-any.ensures, c.only-vpid.ensures) meets_transition

@@ -1,0 +1,6 @@
+-- The replay starts with the program's context.
+use Rattle.texts.specs.Laws.Texts.{starts}
+use Rattle.texts.proofs.start.Goals as goal
+
+pub returns : goal.returns
+returns c = starts (rw c.context.ensures at c.start.ensures)

@@ -1,0 +1,4 @@
+use Rattle.walks.proofs.reached.Goals as goal
+
+pub returns : goal.returns
+returns c = rw c.in_page.ensures
