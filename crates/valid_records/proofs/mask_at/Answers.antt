@@ -1,12 +1,10 @@
 -- Each mask of the row is computed; there is none past them.
 use Prim.Native.Nat.{ℕ, ◌/◌, ◌%◌, ◌^◌}
 use mathlib.Core.Path.{◌≡◌, refl, sym, subst}
-use native.Mathlib.Omega.{arith}
 use Rattle.model.specs.Layouts.{body_of}
 use Rattle.model.specs.Mappings.{linear, guest_physical, combined, structure_cache, wide, global_marked}
 use Rattle.kinds.specs.Places.{place_of}
 use Rattle.valid_records.specs.Masks.{mask, mask_at}
-use Rattle.valid_records.specs.Laws.Masks.{none_of_first}
 use Rattle.valid_records.proofs.mask_at.Goals as goal
 
 -- the mask at a place that is known
