@@ -1,5 +1,5 @@
 -- The counts up to the position are copied. The measure is what is left.
-use Rattle.std.proofs.Common.{◌-◌, arith, length-set}
+use Rattle.std.proofs.Common.{arith, length-set}
 use Rattle.tallies.specs.Laws.Lists.{copied_start, copied_next, copied_end}
 use Rattle.tallies.proofs.copy.Goals as goal
 
