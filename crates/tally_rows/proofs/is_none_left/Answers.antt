@@ -1,5 +1,4 @@
 -- The counts before the position are looked at. The measure is what is left of the length.
-use Prim.Native.Nat.{◌-◌}
 use native.Mathlib.Omega.{arith}
 use Rattle.tally_rows.specs.Laws.Left.{looked_start, looked_next, looked_end}
 use Rattle.tally_rows.proofs.is_none_left.Goals as goal
