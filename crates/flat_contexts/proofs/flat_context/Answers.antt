@@ -3,8 +3,6 @@ use mathlib.Core.Path.{◌∙◌, sym, ap}
 use Rattle.flat_contexts.specs.Contexts.{flatten, flatten_at, flatten_guest}
 use Rattle.flat_contexts.proofs.flat_context.Goals as goal
 
--- look: c.place-1.given is of Rattle's own: a fact of .type_inv, an arm's .is, or none
-
 pub returns-in-Outside : goal.returns-in-Outside
 unfolding flatten
 returns-in-Outside c = c.with_place.ensures ∙ ap (flatten_at c.args.c) (sym c.in-Outside.is)
@@ -17,16 +15,14 @@ pub returns-in-Off : goal.returns-in-Off
 unfolding flatten
 returns-in-Off c =
     let context = c.args.c in
-    let guest = c.place-1.given in
     c.with_place-in-Off.ensures
-    ∙ ap (flatten_guest context guest.0.0.vpid) (sym c.in-Off.is)
-    ∙ ap (flatten_at context) (sym guest.1)
+    ∙ ap (flatten_guest context c.in-Guest.guest.vpid) (sym c.in-Off.is)
+    ∙ ap (flatten_at context) (sym c.in-Guest.is)
 
 pub returns-in-On : goal.returns-in-On
 unfolding flatten
 returns-in-On c =
     let context = c.args.c in
-    let guest = c.place-1.given in
     c.with_place-in-On.ensures
-    ∙ ap (flatten_guest context guest.0.0.vpid) (sym c.in-On.is)
-    ∙ ap (flatten_at context) (sym guest.1)
+    ∙ ap (flatten_guest context c.in-Guest.guest.vpid) (sym c.in-On.is)
+    ∙ ap (flatten_at context) (sym c.in-Guest.is)

@@ -2,6 +2,7 @@
 use native.Mathlib.Nat.{div-one}
 use Rattle.std.proofs.Common.{ap}
 use Rattle.std.proofs.Common.{not}
+use borrow.Author.Tests.{eq-eqb, ne_eqb}
 use Rattle.grounds.proofs.eptp_rule.Goals as goal
 
 pub returns-then-not-memory_type-capability : goal.returns-then-not-memory_type-capability
@@ -19,7 +20,7 @@ returns-then-not-eptp-capability-2 c = rw (div-one, c.if-not-memory_type-capabil
 pub returns-then-not-eptp : goal.returns-then-not-eptp
 unfolding Rattle.model.specs.Answers.eptp_rule Rattle.model.specs.Answers.first
 returns-then-not-eptp c =
-    rw (div-one, c.if-not-memory_type-capability.false, c.if-not-eptp-capability.false, c.if-not-eptp-capability-2.false, c.if-not-eptp.true)
+    rw (div-one, c.if-not-memory_type-capability.false, c.if-not-eptp-capability.false, c.if-not-eptp-capability-2.false, ap not (ne_eqb _ _ c.if-not-eptp.true))
 
 pub returns-then-not-is_within_width : goal.returns-then-not-is_within_width
 unfolding Rattle.model.specs.Answers.eptp_rule Rattle.model.specs.Answers.first
@@ -29,7 +30,7 @@ returns-then-not-is_within_width c =
       c.if-not-memory_type-capability.false,
       c.if-not-eptp-capability.false,
       c.if-not-eptp-capability-2.false,
-      c.if-not-eptp.false,
+      ap not (eq-eqb _ _ c.if-not-eptp.false),
       rw c.is_within_width.ensures at (ap not c.if-not-is_within_width.true),
     )
 
@@ -41,6 +42,6 @@ returns c =
       c.if-not-memory_type-capability.false,
       c.if-not-eptp-capability.false,
       c.if-not-eptp-capability-2.false,
-      c.if-not-eptp.false,
+      ap not (eq-eqb _ _ c.if-not-eptp.false),
       rw c.is_within_width.ensures at (ap not c.if-not-is_within_width.false),
     )

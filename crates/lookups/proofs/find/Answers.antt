@@ -20,6 +20,6 @@ pub returns : goal.returns
 unfolding lookup lookup_start usable_records
 returns c =
     let is-0 = eq-eqb _ _ (sym c.answer_to_lookup-answer.ensures ∙ c.if-answer-ne0.false) in
-    let found = c.search_found.ensures _ c.sought_at.ensures in
-    let end = end_of_part c.args.table.now _ c.search_found.result.start c.search_found.result.end found.ordered found.within found.part in
+    let found = c.search-found.ensures _ c.sought_at.ensures in
+    let end = end_of_part c.args.table.now _ c.search-found.result.start c.search-found.result.end found.ordered found.within found.part in
     record { answer_value = c.answer_to_lookup-answer.ensures; start_value = rw (is-0, ← found.place) (refl, end) }

@@ -14,14 +14,8 @@ pub returns-then-r-gt24 : goal.returns-then-r-gt24
 unfolding counts_as_ignoring
 returns-then-r-gt24 c = let a = c.args in rw (lt-ltb most_held a.r.length c.if-r-gt24.true, or-true a.r.ignoring)
 
-is-complete-requires : tie.Need-is-complete-requires
-is-complete-requires c κs = omega (arith, full c, c.before.before.if2.false)
-
 pub returns : goal.returns
 unfolding counts_as_ignoring held_bytes
 returns c =
     let a = c.args in
     c.is_complete.ensures ∙ sym (rw (le-ltb most_held a.r.length c.if-r-gt24.false, c.if-r.false))
-
-pub is_complete-requires : goal.is_complete-requires
-is_complete-requires = (is-complete-requires)

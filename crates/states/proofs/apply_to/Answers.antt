@@ -54,7 +54,8 @@ slice_bounds-ground_of_event-end-2 c =
 
 pub ground_of_event-ground-requires : goal.ground_of_event-ground-requires
 ground_of_event-ground-requires c =
-    let all = (judged c, read c) in record { table_value = all.0; raw_value = all.1.0; e_value = all.1.1 }
+    let in_read = (goal.at.ground_of_event-ground-requires c).In-Read in
+    record { table_value = judged in_read; raw_value = (read in_read).0; e_value = (read in_read).1 }
 
 pub returns-then-ground-ne0 : goal.returns-then-ground-ne0
 returns-then-ground-ne0 c =
