@@ -5,7 +5,7 @@ use native.Mathlib.Omega.{arith}
 use lib.ListN.{length, take, length-append}
 use Rattle.lines.specs.Text.{decimal}
 use Rattle.laws.specs.Buffers.{put_more}
-use Rattle.lines.specs.Laws.Text.{decimal_digits, length_decimal}
+use Rattle.lines.proofs.Laws.Text.{decimal_digits, length_decimal}
 use Rattle.lines.proofs.put_field.Goals as goal
 use Rattle.lines.proofs.put_field.Goals.{After-decimal-count, After-slice_known-2-1}
 

@@ -6,7 +6,7 @@ use Rattle.model.specs.Layouts.{body_of}
 use Rattle.model.specs.Mappings.{linear, guest_physical, combined, structure_cache, wide, global_marked}
 use Rattle.kinds.specs.Places.{place_of}
 use Rattle.valid_records.specs.Masks.{mask, mask_at}
-use Rattle.valid_records.specs.Laws.Masks.{none_of_first}
+use Rattle.valid_records.proofs.Laws.Masks.{none_of_first}
 use Rattle.valid_records.proofs.mask_at.Goals as goal
 
 -- look: in_default.rest: what no earlier arm took, a name of Rattle's own; try that goal with no answer
