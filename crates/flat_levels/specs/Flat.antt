@@ -4,7 +4,7 @@ use Rattle.tally_rows.specs.declared.KindCounts.{KindCounts}
 use Rattle.level_lookups.specs.Levels.{lookup_levels_answer, lookup_levels_level, lookup_levels_start, lookup_levels}
 use Rattle.level_steps.specs.declared.Level.{Level}
 use Rattle.level_steps.specs.declared.LevelStep.{LevelStep}
-use Rattle.level_steps.specs.Levels.{Handed, level_refusal, levels_stepped, first_pcids, first_written, second_pcids, second_written}
+use Rattle.level_steps.specs.Levels.{Handed, level_refusal, levels_stepped, pcids_of_first, first_written, pcids_of_second, second_written}
 use Rattle.flat_contexts.specs.declared.FlatContext.{FlatContext}
 use Rattle.flat_contexts.specs.Contexts.{is_known, unflatten, flatten}
 use Rattle.flat_levels.specs.declared.FlatLevel.{FlatLevel}
@@ -36,13 +36,13 @@ flat_levels_step c e h k =
 
 -- the counts by PCID and the new buffers after it
 unfoldable pub flat_first_pcids : FlatContext → List ℕ → Handed → Handed → List ℕ
-flat_first_pcids c e h k = cond (is_known c) (first_pcids (unflatten c) e h k) h.pcids
+flat_first_pcids c e h k = cond (is_known c) (pcids_of_first (unflatten c) e h k) h.pcids
 
 unfoldable pub flat_first_written : FlatContext → List ℕ → Handed → Handed → List ℕ
 flat_first_written c e h k = cond (is_known c) (first_written (unflatten c) e h k) h.buffer
 
 unfoldable pub flat_second_pcids : FlatContext → List ℕ → Handed → Handed → List ℕ
-flat_second_pcids c e h k = cond (is_known c) (second_pcids (unflatten c) e h k) k.pcids
+flat_second_pcids c e h k = cond (is_known c) (pcids_of_second (unflatten c) e h k) k.pcids
 
 unfoldable pub flat_second_written : FlatContext → List ℕ → Handed → Handed → List ℕ
 flat_second_written c e h k = cond (is_known c) (second_written (unflatten c) e h k) k.buffer

@@ -7,7 +7,7 @@ use Rattle.model.specs.Layouts.{kind_of, mapping_kind}
 use Rattle.tally_rows.specs.declared.KindCounts.{KindCounts}
 use Rattle.level_steps.specs.declared.Level.{Level}
 use Rattle.level_steps.specs.declared.LevelStep.{LevelStep}
-use Rattle.level_steps.specs.Levels.{Handed, handed, levels_stepped, first_pcids, first_written, second_pcids, second_written}
+use Rattle.level_steps.specs.Levels.{Handed, handed, levels_stepped, pcids_of_first, first_written, pcids_of_second, second_written}
 use Rattle.runs.specs.Book.{Report}
 use Rattle.counted_runs.specs.Runs.{CountedRun, CountedGap, counted_started, counted_without}
 
@@ -60,8 +60,8 @@ level_told one r = r.first
 level_told two r = r.second
 
 unfoldable pub level_pcids : LevelNumber → LevelRun → List ℕ → List ℕ
-level_pcids one s e = first_pcids s.context e (handed_of (s.level one)) (handed_of (s.level two))
-level_pcids two s e = second_pcids s.context e (handed_of (s.level one)) (handed_of (s.level two))
+level_pcids one s e = pcids_of_first s.context e (handed_of (s.level one)) (handed_of (s.level two))
+level_pcids two s e = pcids_of_second s.context e (handed_of (s.level one)) (handed_of (s.level two))
 
 unfoldable pub level_written : LevelNumber → LevelRun → List ℕ → List ℕ
 level_written one s e = first_written s.context e (handed_of (s.level one)) (handed_of (s.level two))

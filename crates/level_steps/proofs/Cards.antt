@@ -20,7 +20,7 @@ use Rattle.tally_rows.specs.declared.KindCounts.{KindCounts}
 use Rattle.tally_rows.specs.Rows.{of_row, kind_counts, same, same_kinds, matching}
 use Rattle.counted_steps.specs.Steps.{counted_grounds, counted_answer}
 use Rattle.counted_steps.proofs.Laws.Steps.{counted_answer_matching, counts_matching}
-use Rattle.level_steps.specs.Levels.{Handed, handed, levels_refusal, levels_stepped, first_pcids, first_written, second_pcids, second_written}
+use Rattle.level_steps.specs.Levels.{Handed, handed, levels_refusal, levels_stepped, pcids_of_first, first_written, pcids_of_second, second_written}
 use Rattle.level_steps.proofs.Laws.Levels.{own_answer, refused_by_first, refused_by_second, both_accepted}
 
 -- the program's capability and widths, with PCID 1
@@ -63,7 +63,7 @@ own rs n = handed (kind_counts rs) (pcid_counts rs) (joined rs) (buffer n)
 abbrev Refuses : ℕ → ℕ → Context → List ℕ → Handed → Handed → Type 0
 Refuses n r c e h k =
     (levels_refusal n r c h.kinds k.kinds ≡ levels_stepped c e h k)
-    × ((h.pcids ≡ first_pcids c e h k) × ((h.buffer ≡ first_written c e h k) × ((k.pcids ≡ second_pcids c e h k) × (k.buffer ≡ second_written c e h k))))
+    × ((h.pcids ≡ pcids_of_first c e h k) × ((h.buffer ≡ first_written c e h k) × ((k.pcids ≡ pcids_of_second c e h k) × (k.buffer ≡ second_written c e h k))))
 
 -- Every row holds.
 record Rows : Type 0 where

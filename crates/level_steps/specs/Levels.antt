@@ -61,14 +61,14 @@ levels_stepped c e h k =
     }
 
 -- the counts by PCID and the new buffers after it
-unfoldable pub first_pcids : Context → List ℕ → Handed → Handed → List ℕ
-first_pcids c e h k = cond (accepted_by_both c e h k) (alone_pcids c e h) h.pcids
+unfoldable pub pcids_of_first : Context → List ℕ → Handed → Handed → List ℕ
+pcids_of_first c e h k = cond (accepted_by_both c e h k) (alone_pcids c e h) h.pcids
 
 unfoldable pub first_written : Context → List ℕ → Handed → Handed → List ℕ
 first_written c e h k = cond (accepted_by_both c e h k) (alone_written c e h) h.buffer
 
-unfoldable pub second_pcids : Context → List ℕ → Handed → Handed → List ℕ
-second_pcids c e h k = cond (accepted_by_both c e h k) (alone_pcids c e k) k.pcids
+unfoldable pub pcids_of_second : Context → List ℕ → Handed → Handed → List ℕ
+pcids_of_second c e h k = cond (accepted_by_both c e h k) (alone_pcids c e k) k.pcids
 
 unfoldable pub second_written : Context → List ℕ → Handed → Handed → List ℕ
 second_written c e h k = cond (accepted_by_both c e h k) (alone_written c e k) k.buffer

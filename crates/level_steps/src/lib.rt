@@ -2,7 +2,7 @@
 #![tactic(auto)]
 
 ghost use Rattle.std.specs.Prelude.{◌≡◌};
-ghost use Rattle.level_steps.specs.Levels.{handed, level_of, levels_refusal, levels_stepped, first_pcids, first_written, second_pcids, second_written};
+ghost use Rattle.level_steps.specs.Levels.{handed, level_of, levels_refusal, levels_stepped, pcids_of_first, first_written, pcids_of_second, second_written};
 
 use counted_steps::CountedStep;
 use model::{Context, EventReading};
@@ -81,9 +81,9 @@ pub fn step(
     second_new: &mut [u8],
 ) -> LevelStep
     ensures value { result ≡ levels_stepped c event.now (handed kinds pcids.old table.now new.old) (handed second_kinds second_pcids.old second_table.now second_new.old) }
-    ensures pcids_after { pcids.new ≡ first_pcids c event.now (handed kinds pcids.old table.now new.old) (handed second_kinds second_pcids.old second_table.now second_new.old) }
+    ensures pcids_after { pcids.new ≡ pcids_of_first c event.now (handed kinds pcids.old table.now new.old) (handed second_kinds second_pcids.old second_table.now second_new.old) }
     ensures after { new.new ≡ first_written c event.now (handed kinds pcids.old table.now new.old) (handed second_kinds second_pcids.old second_table.now second_new.old) }
-    ensures second_pcids_after { second_pcids.new ≡ second_pcids c event.now (handed kinds pcids.old table.now new.old) (handed second_kinds second_pcids.old second_table.now second_new.old) }
+    ensures second_pcids_after { second_pcids.new ≡ pcids_of_second c event.now (handed kinds pcids.old table.now new.old) (handed second_kinds second_pcids.old second_table.now second_new.old) }
     ensures second_new_after { second_new.new ≡ second_written c event.now (handed kinds pcids.old table.now new.old) (handed second_kinds second_pcids.old second_table.now second_new.old) }
 {
     let EventReading::Read(e) = events::read_event(c.linear_width, event) else {

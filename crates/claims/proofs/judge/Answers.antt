@@ -39,12 +39,17 @@ read c = valid_event_read _ _ _ (sym c.read_event.ensures ∙ c.in-Read.is)
 
 pub ground_of_event-ground-requires : goal.ground_of_event-ground-requires
 ground_of_event-ground-requires c =
-    let all = (judged (goal.at.ground_of_event-ground-requires c).Else-answer-ne0, read c) in record { table_value = all.0; raw_value = all.1.0; e_value = all.1.1 }
+    let in_read = (goal.at.ground_of_event-ground-requires c).In-Read in
+    record {
+      table_value = judged (goal.at.ground_of_event-ground-requires c).Else-answer-ne0;
+      raw_value = (read in_read).0;
+      e_value = (read in_read).1;
+    }
 
 pub returns-then-ground-ne0 : goal.returns-then-ground-ne0
 returns-then-ground-ne0 c =
     let a = c.args in
-    let (ground.answer_value, ground.rule_value) = c.ground_of_event-ground.ensures in
+    let ground = c.ground_of_event-ground.ensures in
     sym (judgement_refused a.c a.table.now a.event.now a.claim.now (sym ground.answer_value) c.if-ground-ne0.true ground.rule_value)
 
 -- the event is accepted

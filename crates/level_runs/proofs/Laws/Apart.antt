@@ -10,7 +10,7 @@ use Rattle.model.specs.declared.Context.{Context}
 use Rattle.model.specs.Steps.{accepted_step, refused_step}
 use Rattle.counted_steps.specs.Steps.{counted_stepped}
 use Rattle.counted_steps.proofs.Laws.Accepted.{counted_stepped_answer}
-use Rattle.level_steps.specs.Levels.{Handed, alone, given, accepted_by_both, levels_stepped, first_pcids, first_written, second_pcids, second_written}
+use Rattle.level_steps.specs.Levels.{Handed, alone, given, accepted_by_both, levels_stepped, pcids_of_first, first_written, pcids_of_second, second_written}
 use Rattle.level_steps.proofs.Laws.Levels.{own_answer, each_accepted}
 use Rattle.runs.specs.Apart.{of_vpid, of_ep4ta, Alike}
 use Rattle.runs.specs.Runs.{verdict}
@@ -93,7 +93,7 @@ module _ (s : LevelRun) (e : List ℕ) where
       (λ first. rw (ne_eqb (alone s.context e first_level).step.answer 0 first) (alone_context s.context e first_level first))
 
   pub levels_refused_after : ((levels_result s e).answer ≡ 0 → ⊥) → (n : LevelNumber) → level_run n (levels_after s e) ≡ level_run n s
-  unfolding level_run levels_after levels_result levels_stepped level_told level_pcids level_written accepted_by_both first_pcids first_written second_pcids second_written
+  unfolding level_run levels_after levels_result levels_stepped level_told level_pcids level_written accepted_by_both pcids_of_first first_written pcids_of_second second_written
   levels_refused_after some one = rw (ne_eqb (given s.context e first_level second_level).answer 0 some, given_context some)
   levels_refused_after some two = rw (ne_eqb (given s.context e first_level second_level).answer 0 some, given_context some)
 

@@ -16,7 +16,7 @@ use Rattle.counted_steps.specs.Steps.{counted_answer, counted_stepped, counted_p
 use Rattle.counted_steps.proofs.Laws.Steps.{counted_step_refused}
 use Rattle.level_steps.specs.declared.Level.{Level}
 use Rattle.level_steps.specs.declared.LevelStep.{LevelStep}
-use Rattle.level_steps.specs.Levels.{Handed, alone, alone_pcids, alone_written, given, accepted_by_both, level_of, level_refusal, levels_refusal, levels_stepped, first_pcids, first_written, second_pcids, second_written}
+use Rattle.level_steps.specs.Levels.{Handed, alone, alone_pcids, alone_written, given, accepted_by_both, level_of, level_refusal, levels_refusal, levels_stepped, pcids_of_first, first_written, pcids_of_second, second_written}
 
 -- one table alone
 module _ (c : Context) (e : List ℕ) (h : Handed) where
@@ -45,11 +45,11 @@ module _ (c : Context) (e : List ℕ) (h k : Handed) where
   -- what a step hands back and writes
   abbrev Steps : LevelStep → List ℕ → List ℕ → List ℕ → List ℕ → Type 0
   Steps r p b p' b' =
-      (r ≡ levels_stepped c e h k) × ((p ≡ first_pcids c e h k) × ((b ≡ first_written c e h k) × ((p' ≡ second_pcids c e h k) × (b' ≡ second_written c e h k))))
+      (r ≡ levels_stepped c e h k) × ((p ≡ pcids_of_first c e h k) × ((b ≡ first_written c e h k) × ((p' ≡ pcids_of_second c e h k) × (b' ≡ second_written c e h k))))
 
   levels_refused : {n r : ℕ} → given c e h k ≡ refusal n r c → (n ≡ 0 → ⊥) → {s : LevelStep} → s ≡ levels_refusal n r c h.kinds k.kinds
       → Steps s h.pcids h.buffer k.pcids k.buffer
-  unfolding accepted_by_both levels_stepped first_pcids first_written second_pcids second_written
+  unfolding accepted_by_both levels_stepped pcids_of_first first_written pcids_of_second second_written
   levels_refused {n} is some told =
       let other = ne_eqb n 0 some in
       (told ∙ rw (is, other), (rw (is, other), (rw (is, other), (rw (is, other), rw (is, other)))))
@@ -68,7 +68,7 @@ module _ (c : Context) (e : List ℕ) (h k : Handed) where
       → {l l' : Level} → l ≡ level_of s → l' ≡ level_of s'
       → {p b p' b' : List ℕ} → p ≡ alone_pcids c e h → b ≡ alone_written c e h → p' ≡ alone_pcids c e k → b' ≡ alone_written c e k
       → Steps (record { answer = 0; rule = 0; context = s'.step.context; first = l; second = l' }) p b p' b'
-  unfolding accepted_by_both levels_stepped first_pcids first_written second_pcids second_written
+  unfolding accepted_by_both levels_stepped pcids_of_first first_written pcids_of_second second_written
   levels_accepted zero zero' is is' told told' pcids written pcids' written' =
       let second = second_given (alone_accepted c e h zero).0 in
       let zeros = alone_accepted c e k zero' in (
@@ -92,20 +92,20 @@ module _ (c : Context) (e : List ℕ) (h k : Handed) (same : (alone c e h).step.
     pub answer : (levels_stepped c e h k).answer ≡ (alone c e h).step.answer
     pub first : (levels_stepped c e h k).first ≡ level_of (alone c e h)
     pub second : (levels_stepped c e h k).second ≡ level_of (alone c e k)
-    pub first_counts : first_pcids c e h k ≡ alone_pcids c e h
+    pub first_counts : pcids_of_first c e h k ≡ alone_pcids c e h
     pub first_buffer : first_written c e h k ≡ alone_written c e h
-    pub second_counts : second_pcids c e h k ≡ alone_pcids c e k
+    pub second_counts : pcids_of_second c e h k ≡ alone_pcids c e k
     pub second_buffer : second_written c e h k ≡ alone_written c e k
 
   pub each_accepted : (alone c e h).step.answer ≡ 0 → Each × (given c e h k ≡ (alone c e k).step)
-  unfolding accepted_by_both levels_stepped first_pcids first_written second_pcids second_written
+  unfolding accepted_by_both levels_stepped pcids_of_first first_written pcids_of_second second_written
   each_accepted zero =
       let is = second_given c e h k zero in
       let zero' = sym same ∙ zero in
       (record { answer = rw is (sym same); first = rw (is, zero'); second = rw (is, zero'); first_counts = rw (is, zero'); first_buffer = rw (is, zero'); second_counts = rw (is, zero'); second_buffer = rw (is, zero') }, is)
 
   pub each_refused : ((alone c e h).step.answer ≡ 0 → ⊥) → Each × (given c e h k ≡ (alone c e h).step)
-  unfolding given accepted_by_both levels_stepped first_pcids first_written second_pcids second_written
+  unfolding given accepted_by_both levels_stepped pcids_of_first first_written pcids_of_second second_written
   each_refused some =
       let other = ne_eqb (alone c e h).step.answer 0 some in
       let stays = alone_unchanged c e h some in

@@ -14,12 +14,11 @@ use Rattle.skuldrefn.proofs.skuldrefn_walk.Goals.{Else-not-is_known}
 pub returns-then-not-is_known : goal.returns-then-not-is_known
 unfolding flat_walk
 returns-then-not-is_known c =
-    let all = (
-  rw (sym c.is_known.ensures ∙ not-true _ (ap not c.if-not-is_known.true))
-      (λ i. record { ending = c.values_of.ensures i; read = 0; «record» = replicate 22 0 }),
-  omega arith, in record { value = all.0; read_bound = all.1 }
-
-)
+    record {
+      value = rw (sym c.is_known.ensures ∙ c.if-not-is_known.true)
+          (λ i. record { ending = c.values_of.ensures i; read = 0; «record» = replicate 22 0 });
+      read_bound = omega arith;
+    }
 
 -- past the test the numbers are known
 known : (c : Else-not-is_known) → is_known c.args.context ≡ true

@@ -220,10 +220,10 @@ module _ (c : Context) (r e : List ℕ) (one : one_record 48 r ≡ true) (valid 
   one_57 : one_record 57 (widened r) ≡ true
   unfolding one_record
   one_57 =
-      let v = widened_valid r narrow.valid narrow.own_val in
+      let v = widened_valid r narrow.valid narrow.own in
       let starts = valid_starts (widened r) v in
       let exact : length (widened r) ≡ length_of (kind_of (widened r)) = sym v.exact ∙ record_length_starts (widened r) starts in
-      rw (starts, eq-eqb (length (widened r)) (length_of (kind_of (widened r))) exact, widened_of_width r narrow.valid narrow.own_val)
+      rw (starts, eq-eqb (length (widened r)) (length_of (kind_of (widened r))) exact, widened_of_width r narrow.valid narrow.own)
 
   event_answer_alike : event_answer (with_width 57 c) (event (widened_event e)) ≡ event_answer (with_width 48 c) (event e)
   unfolding event_answer
