@@ -142,9 +142,9 @@ event_creation_kind e m h =
     apart : ◌≡◌ {A = ℕ} 0 1 → ⊥
     apart z = omega arith
 
-    first : (b : Bool) (rest : Event) → (rest ≡ Creation m → ⊥) → cond b (Creation (mapping e)) rest ≡ Creation m → b ≡ true
-    first true rest other h = refl
-    first false rest other h = absurd (other h)
+    first : (b : Bool) (otherwise : Event) → (otherwise ≡ Creation m → ⊥) → cond b (Creation (mapping e)) otherwise ≡ Creation m → b ≡ true
+    first true otherwise other h = refl
+    first false otherwise other h = absurd (other h)
 
     neither : (b : Bool) (x y : Event) → (x ≡ Creation m → ⊥) → (y ≡ Creation m → ⊥) → cond b x y ≡ Creation m → ⊥
     neither true x y p q = p

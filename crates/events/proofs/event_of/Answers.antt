@@ -9,8 +9,6 @@ use Rattle.laws.specs.Events.{event_creation, sized_at, sized_held}
 use Rattle.events.proofs.event_of.Goals as goal
 use Rattle.events.proofs.event_of.Goals.{Then-is_mapping}
 
--- look: in_default.rest: what no earlier arm took, a name of Rattle's own; try that goal with no answer
-
 -- a creation
 held : (c : Then-is_mapping) → Held c.args.e.now
 held c = sized_held _ c.requires (sym c.is_mapping.ensures ∙ c.if-is_mapping.true)
@@ -101,25 +99,25 @@ pub returns-in-27 : goal.returns-in-27
 unfolding event field mapping_kind body_of
 returns-in-27 c = rw ((sized_at _ 27 c.requires c.in-27.is).0, c.number2-in-27.ensures.0)
 
+pub mapping_of-requires : goal.mapping_of-requires
+mapping_of-requires c = held c
+
 pub returns-in_default : goal.returns-in_default
 unfolding event
 returns-in_default c =
-    let other = c.in_default.in_default-own.rest in
+    let k = c.args.kind in
     rw (
       ← c.requires.0,
       sym c.is_mapping.ensures ∙ c.if-is_mapping.false,
-      ne_eqb _ 16 other.0.0.0.0.0.0.0.0.0.0.1,
-      ne_eqb _ 17 other.0.0.0.0.0.0.0.0.0.1,
-      ne_eqb _ 18 other.0.0.0.0.0.0.0.0.1,
-      ne_eqb _ 19 other.0.0.0.0.0.0.0.1,
-      ne_eqb _ 20 other.0.0.0.0.0.0.1,
-      ne_eqb _ 21 other.0.0.0.0.0.1,
-      ne_eqb _ 22 other.0.0.0.0.1,
-      ne_eqb _ 23 other.0.0.0.1,
-      ne_eqb _ 24 other.0.0.1,
-      ne_eqb _ 26 other.0.1,
-      ne_eqb _ 27 other.1,
+      ne_eqb k 16 (λ e. omega arith),
+      ne_eqb k 17 (λ e. omega arith),
+      ne_eqb k 18 (λ e. omega arith),
+      ne_eqb k 19 (λ e. omega arith),
+      ne_eqb k 20 (λ e. omega arith),
+      ne_eqb k 21 (λ e. omega arith),
+      ne_eqb k 22 (λ e. omega arith),
+      ne_eqb k 23 (λ e. omega arith),
+      ne_eqb k 24 (λ e. omega arith),
+      ne_eqb k 26 (λ e. omega arith),
+      ne_eqb k 27 (λ e. omega arith),
     )
-
-pub mapping_of-requires : goal.mapping_of-requires
-mapping_of-requires c = held c

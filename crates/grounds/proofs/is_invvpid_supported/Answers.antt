@@ -1,8 +1,6 @@
 -- `is_invvpid_supported` answers each type as its definition does.
-use borrow.Author.Tests.{ne_eqb}
+use Rattle.std.proofs.Common.{rules, tests}
 use Rattle.grounds.proofs.is_invvpid_supported.Goals as goal
-
--- look: in_default.rest: what no earlier arm took, a name of Rattle's own; try that goal with no answer
 
 pub returns-in-0 : goal.returns-in-0
 unfolding Rattle.model.specs.Answers.invvpid_supported
@@ -22,10 +20,4 @@ returns-in-3 c = rw c.in-3.is
 
 pub returns-in_default : goal.returns-in_default
 unfolding Rattle.model.specs.Answers.invvpid_supported
-returns-in_default c =
-    rw (
-      ne_eqb _ _ c.in_default.in_default-own.rest.0.0.0.1,
-      ne_eqb _ _ c.in_default.in_default-own.rest.0.0.1,
-      ne_eqb _ _ c.in_default.in_default-own.rest.0.1,
-      ne_eqb _ _ c.in_default.in_default-own.rest.1,
-    )
+returns-in_default c = search (rules, tests)

@@ -14,7 +14,7 @@ use Rattle.row_fields.proofs.Laws.Rows.{rest_good, bad_kind, good_by_ranges, len
 use Rattle.laws.specs.Layouts.{mapping_kind_ge, mapping_kind_le}
 use Rattle.row_fields.proofs.Laws.Masks.{masks_of_row, far_span}
 use Rattle.row_fields.proofs.length_of_named.Goals as goal
-use Rattle.row_fields.proofs.length_of_named.Goals.{After-is_mapping_at, After-number1-kind, After-number1-span, After-struct_known-3-1, Else-not-is_mapping_at}
+use Rattle.row_fields.proofs.length_of_named.Goals.{After-is_mapping_at, After-number1-kind, After-number1-span, After-number8-4, Else-not-is_mapping_at}
 
 -- the kind and the span that were read
 kind : (c : After-number1-kind) → c.number1-kind.result ≡ column Column.kind c.args.row.now
@@ -62,7 +62,7 @@ pub mask_at-mask-requires : goal.mask_at-mask-requires
 mask_at-mask-requires c = omega (arith, some (goal.at.mask_at-mask-requires c).Else-not-is_mapping_at)
 
 -- what the test of the bits says
-tested : (c : After-struct_known-3-1)
+tested : (c : After-number8-4)
     → (eqb (bit_and c.number8.result c.mask_at-mask.result.0) 0 && eqb (bit_and c.number8-2.result c.mask_at-mask.result.1) 0 && eqb (bit_and c.number8-3.result frame_mask) 0 && eqb (bit_and c.number8-4.result c.mask_at-mask.result.2) 0)
     ≡ rest_good c.args.row.now
 tested c =
@@ -73,7 +73,7 @@ tested c =
     (ap₂ bit_and c.number8-2.ensures.0 c.mask_at-mask.ensures.1.0))
     (ap (λ (x : ℕ). eqb (bit_and x frame_mask) 0) c.number8-3.ensures.0))
     (ap₂ (λ (x y : ℕ). eqb (bit_and x y) 0) c.number8-4.ensures.0 c.mask_at-mask.ensures.1.1)
-    ∙ masks_of_row _ (λ i. omega (arith, c.type_inv.row i)) (known (goal.at.After-struct_known-3-1 c).Else-not-is_mapping_at) _ _ (kind (goal.at.After-struct_known-3-1 c).After-number1-kind) (span (goal.at.After-struct_known-3-1 c).After-number1-span) c.if-span-gt4.false
+    ∙ masks_of_row _ (λ i. omega (arith, c.type_inv.row i)) (known (goal.at.After-number8-4 c).Else-not-is_mapping_at) _ _ (kind (goal.at.After-number8-4 c).After-number1-kind) (span (goal.at.After-number8-4 c).After-number1-span) c.if-span-gt4.false
 
 pub length_of_mapping-requires : goal.length_of_mapping-requires
 length_of_mapping-requires c =
@@ -83,8 +83,8 @@ pub returns-then-number8-mask : goal.returns-then-number8-mask
 returns-then-number8-mask c =
     c.length_of_mapping.ensures
     ∙ ap length_of (kind (goal.at.returns-then-number8-mask c).After-number1-kind)
-    ∙ sym (length_good _ _ (good_by_ranges _ _ (own (goal.at.returns-then-number8-mask c).Else-not-is_mapping_at) ∙ sym (tested (goal.at.returns-then-number8-mask c).After-struct_known-3-1) ∙ c.if-number8-mask.true))
+    ∙ sym (length_good _ _ (good_by_ranges _ _ (own (goal.at.returns-then-number8-mask c).Else-not-is_mapping_at) ∙ sym (tested (goal.at.returns-then-number8-mask c).After-number8-4) ∙ c.if-number8-mask.true))
 
 pub returns : goal.returns
 returns c =
-    sym (length_bad _ _ (good_by_ranges _ _ (own (goal.at.returns c).Else-not-is_mapping_at) ∙ sym (tested (goal.at.returns c).After-struct_known-3-1) ∙ c.if-number8-mask.false))
+    sym (length_bad _ _ (good_by_ranges _ _ (own (goal.at.returns c).Else-not-is_mapping_at) ∙ sym (tested (goal.at.returns c).After-number8-4) ∙ c.if-number8-mask.false))

@@ -7,17 +7,12 @@ use Rattle.valid_records.proofs.Laws.Masks.{none_of_first}
 use Rattle.row_fields.specs.Masks.{first_mask, page_mask, ep4ta_mask, first_mask_at, page_mask_at, ep4ta_mask_at}
 use Rattle.row_fields.proofs.mask_at.Goals as goal
 
--- look: in_default.rest: what no earlier arm took, a name of Rattle's own; try that goal with no answer
-
 -- the three numbers of the mask at a place that is known
 abbrev Masked : ℕ → ℕ → ℕ → ℕ → Type 0
 Masked x y z i = (x ≡ first_mask_at i) × ((y ≡ page_mask_at i) × (z ≡ ep4ta_mask_at i))
 
 at : {i x y z : ℕ} (k : ℕ) → i ≡ k → Masked x y z k → Masked x y z i
 at {i} {x} {y} {z} k is = subst (Masked x y z) (sym is)
-
-pub returns-in_default : goal.returns-in_default
-returns-in_default c = absurd (omega (arith, c.requires, none_of_first c.args.i 50 c.in_default.in_default-own.rest))
 
 pub returns-in-0 : goal.returns-in-0
 unfolding first_mask page_mask ep4ta_mask linear guest_physical combined structure_cache wide global_marked

@@ -2,8 +2,6 @@ use Rattle.row_fields.specs.Rows.{named}
 use Rattle.row_fields.proofs.Laws.Overlaps.{small_of_fits}
 use Rattle.row_fields.proofs.put_record.Goals as goal
 
--- look: returns wants a record { value = ..; table_after = .. }
-
 pub put_mapping-requires : goal.put_mapping-requires
 unfolding named
 put_mapping-requires c =

@@ -1,22 +1,15 @@
 -- Each mask of the row is computed; there is none past them.
 use Prim.Native.Nat.{ℕ, ◌/◌, ◌%◌, ◌^◌}
 use mathlib.Core.Path.{◌≡◌, refl, sym, subst}
-use native.Mathlib.Omega.{arith}
 use Rattle.model.specs.Layouts.{body_of}
 use Rattle.model.specs.Mappings.{linear, guest_physical, combined, structure_cache, wide, global_marked}
 use Rattle.kinds.specs.Places.{place_of}
 use Rattle.valid_records.specs.Masks.{mask, mask_at}
-use Rattle.valid_records.proofs.Laws.Masks.{none_of_first}
 use Rattle.valid_records.proofs.mask_at.Goals as goal
-
--- look: in_default.rest: what no earlier arm took, a name of Rattle's own; try that goal with no answer
 
 -- the mask at a place that is known
 at : {i x y : ℕ} (k : ℕ) → i ≡ k → (x ≡ mask_at k % 2 ^ 64) × (y ≡ mask_at k / 2 ^ 64) → (x ≡ mask_at i % 2 ^ 64) × (y ≡ mask_at i / 2 ^ 64)
 at {i} {x} {y} k is = subst (λ (k : ℕ). (x ≡ mask_at k % 2 ^ 64) × (y ≡ mask_at k / 2 ^ 64)) (sym is)
-
-pub returns-in_default : goal.returns-in_default
-returns-in_default c = absurd (omega (arith, c.requires, none_of_first c.args.i 50 c.in_default.in_default-own.rest))
 
 pub returns-in-0 : goal.returns-in-0
 unfolding mask place_of body_of linear guest_physical combined structure_cache wide global_marked

@@ -1,8 +1,6 @@
 use borrow.Author.Tests.{ne_eqb}
 use Rattle.widening.proofs.widened_kind.Goals as goal
 
--- look: in_default.rest: what no earlier arm took, a name of Rattle's own; try that goal with no answer
-
 pub returns-in-1 : goal.returns-in-1
 returns-in-1 c = rw c.in-1.is
 
@@ -14,8 +12,3 @@ returns-in-4 c = rw c.in-4.is
 
 pub returns-in-6 : goal.returns-in-6
 returns-in-6 c = rw c.in-6.is
-
-pub returns-in_default : goal.returns-in_default
-returns-in_default c =
-    let rest = c.in_default.in_default-own.rest in
-    rw (ne_eqb _ _ rest.0.0.0.1, ne_eqb _ _ rest.0.0.1, ne_eqb _ _ rest.0.1, ne_eqb _ _ rest.1)
