@@ -7,6 +7,7 @@ ghost use Rattle.widening.specs.Widening.{widening, widening_written};
 ghost use Rattle.fixed_rows.specs.FixedRows.{exporting, exporting_written, importing, importing_written};
 ghost use Rattle.logs.specs.Logs.{told_length};
 ghost use Rattle.tables.specs.Counts.{table_pcid_counts};
+ghost use Rattle.model.specs.declared.Address.{Address};
 ghost use Rattle.level_steps.specs.Levels.{handed};
 ghost use Rattle.flat_levels.specs.Flat.{flat_levels_step, flat_first_pcids, flat_first_written, flat_second_pcids, flat_second_written, flat_levels_lookup};
 ghost use Rattle.skuldrefn.specs.Flat.{flat_step, flat_written, flat_counted_step, flat_counted_pcids, flat_counted_written, flat_counts, flat_lookup, flat_explanation, flat_judgement, flat_walk, fresh, FlatReplays};
