@@ -11,9 +11,8 @@ pub fn put(part: &[u8], out: &mut [u8], at: usize) -> usize
     ensures value { result ≡ at + length part.now }
     ensures out_after { out.new ≡ put at part.now out.old }
 {
-    let end = at + part.len();
-    out[at..end].copy_from_slice(part);
-    end
+    out[at..at + part.len()].copy_from_slice(part);
+    at + part.len()
 }
 
 // Writes a number as so many bytes of the buffer at a position, little-endian, and answers where they end.

@@ -3,5 +3,3 @@ pub mod Claims
 pub mod Matching
 pub mod Theorem
 pub mod Tally
-pub mod Laws
-pub mod Cards

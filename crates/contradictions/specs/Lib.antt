@@ -1,5 +1,3 @@
 -- Issue 30: contradictions between a log and the model; what is proved of them, and, apart from these, the laws that prove it.
 pub mod Contradictions
 pub mod Statements
-pub mod Laws
-pub mod Cards

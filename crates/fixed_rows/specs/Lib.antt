@@ -1,4 +1,2 @@
 pub mod FixedRows
 pub mod Theorem
-pub mod Laws
-pub mod Cards

@@ -1,4 +1,2 @@
 -- Readers and the calls on fragments as flat structs; and, apart from these definitions, the law of numbers that stand for nothing.
 pub mod Flat
-pub mod Laws
-pub mod Cards

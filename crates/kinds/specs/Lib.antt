@@ -1,3 +1,1 @@
 pub mod Places
-pub mod Laws
-pub mod Cards

@@ -5,5 +5,3 @@ pub mod Leaks
 pub mod Processors
 pub mod Mending
 pub mod Statements
-pub mod Laws
-pub mod Cards

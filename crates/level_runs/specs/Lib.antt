@@ -3,4 +3,3 @@
 pub mod Runs
 pub mod Theorem
 pub mod Apart
-pub mod Laws

@@ -4,5 +4,3 @@ pub mod Logs
 pub mod Replays
 pub mod Progress
 pub mod Theorem
-pub mod Laws
-pub mod Cards

@@ -12,4 +12,3 @@ pub mod Answers
 pub mod Steps
 pub mod Lookups
 pub mod Reasons
-pub mod Cards

@@ -2,5 +2,3 @@
 pub mod Standing
 pub mod Origins
 pub mod Statements
-pub mod Laws
-pub mod Cards

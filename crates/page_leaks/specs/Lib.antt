@@ -1,5 +1,3 @@
 -- Issue 30: the second sort of leak, another's page; what is proved of it, and, apart from these, the laws that prove it.
 pub mod PageLeaks
 pub mod Statements
-pub mod Laws
-pub mod Cards

@@ -2,48 +2,35 @@
 #![tactic(auto)]
 
 ghost use Rattle.std.specs.Prelude.{◌≤◌, length};
-ghost use Rattle.io.specs.Counts.{IsPrefixLen};
+ghost use Rattle.std.specs.Io.{ReadsAtMost};
 ghost use Rattle.lines.specs.Text.{line_limit};
 
-use libc::{STDERR_FILENO, STDIN_FILENO, STDOUT_FILENO};
+use std::io;
+use std::io::Read;
 
-// What reading a log gave: whether a read failed, and how many bytes there are.
-#[derive(Clone, Copy)]
-struct Input {
-    is_failed: bool,
-    size: usize,
-}
-
-// Reads standard input to the front of the buffer, until the input ends or the buffer is full.
-fn read_log(log: &mut [u8]) -> Input
-    ensures { IsPrefixLen result.size log.new }
+// Reads to the front of the buffer, until the input ends or the buffer is full.
+fn read_log(input: &mut impl Read, log: &mut [u8]) -> io::Result<usize>
+    ensures { ReadsAtMost result log.new }
 {
     let mut size = 0;
     while size < log.len() {
-        let got = libc::read(STDIN_FILENO, &mut log[size..]);
-        if got < 0 {
-            return Input {
-                is_failed: true,
-                size: 0,
-            };
-        }
-        let more = io::count(got, &log[size..]);
+        let more = input.read(&mut log[size..])?;
         if more == 0 {
-            return Input {
-                is_failed: false,
-                size,
-            };
+            return Ok(size);
         }
         size += more;
     }
-    Input {
-        is_failed: false,
-        size,
-    }
+    Ok(size)
 }
 
 // Writes the text of a log piece by piece, until a piece is empty. It ends where a write fails, and says so.
-fn write_text(log: &[u8], first: &mut [u8], second: &mut [u8], text: &mut [u8])
+fn write_text(
+    rt: &(impl Print + Eprint),
+    log: &[u8],
+    first: &mut [u8],
+    second: &mut [u8],
+    text: &mut [u8],
+)
     requires { line_limit ≤ length text.old }
 {
     let mut progress = texts::start();
@@ -53,11 +40,8 @@ fn write_text(log: &[u8], first: &mut [u8], second: &mut [u8], text: &mut [u8])
         if size == 0 {
             return;
         }
-        if !io::write_all(STDOUT_FILENO, &text[..size]) {
-            io::write_all(
-                STDERR_FILENO,
-                b"replay: standard output cannot be written\n",
-            );
+        if rt.write_all(&text[..size]).is_err() {
+            let _ = eprintln!(rt; "replay: standard output cannot be written");
             return;
         }
         progress = piece.progress;
@@ -90,31 +74,26 @@ fn end_of_run(log: &[u8]) -> End {
 }
 
 // Says where the run ended and why, where that is before the end of the log.
-fn say_end(log: &[u8]) {
+fn say_end(rt: &impl Eprint, log: &[u8]) {
     let end = end_of_run(log);
     let at = end.at;
+    let event = end.event;
     if at < log.len() {
-        io::write_all(STDERR_FILENO, b"replay: the run ended at event ");
-        io::print_decimal(STDERR_FILENO, end.event as u64);
-        io::write_all(STDERR_FILENO, b", byte ");
-        io::print_decimal(STDERR_FILENO, at as u64);
-        if logs::length_of_event(model::NARROW_WIDTH, &log[at..]) == 0 {
-            io::write_all(STDERR_FILENO, b": the kind is unknown\n");
+        let why = if logs::length_of_event(model::NARROW_WIDTH, &log[at..]) == 0 {
+            "the kind is unknown"
         } else {
-            io::write_all(STDERR_FILENO, b": the record is cut\n");
-        }
+            "the record is cut"
+        };
+        let _ = eprintln!(rt; "replay: the run ended at event {event}, byte {at}: {why}");
     }
 }
 
 // Says that the log is too long, or where the run ended.
-fn say_unreplayed(log: &[u8]) {
+fn say_unreplayed(rt: &impl Eprint, log: &[u8]) {
     if log.len() > texts::LOG_LIMIT {
-        io::write_all(
-            STDERR_FILENO,
-            b"replay: the log is longer than 65,536 bytes\n",
-        );
+        let _ = eprintln!(rt; "replay: the log is longer than 65,536 bytes");
     } else {
-        say_end(log);
+        say_end(rt, log);
     }
 }
 
@@ -122,24 +101,24 @@ fn say_unreplayed(log: &[u8]) {
 const TEXT_ROOM: usize = 32760;
 
 // Two buffers for tables, and one for the text.
-fn replay(log: &[u8]) {
+fn replay(rt: &(impl Print + Eprint), log: &[u8]) {
     let mut first = [0u8; model::TABLE_LIMIT];
     let mut second = [0u8; model::TABLE_LIMIT];
     let mut text = [0u8; TEXT_ROOM];
-    write_text(log, &mut first, &mut second, &mut text);
-    say_unreplayed(log);
+    write_text(rt, log, &mut first, &mut second, &mut text);
+    say_unreplayed(rt, log);
 }
 
 // A buffer that holds one byte more than the longest log, so that a longer one is seen to be longer.
 const LOG_ROOM: usize = 65537;
 
-fn main() {
+// What it cannot say on standard error is lost: the status is 0 all the same.
+fn main(rt: HostRuntime) {
     let mut log = [0u8; LOG_ROOM];
-    let input = read_log(&mut log);
-    let size = input.size;
-    if input.is_failed {
-        io::write_all(STDERR_FILENO, b"replay: standard input cannot be read\n");
-    } else {
-        replay(&log[..size]);
+    match read_log(&mut rt.stdin(), &mut log) {
+        Ok(size) => replay(&rt, &log[..size]),
+        Err(_) => {
+            let _ = eprintln!(&rt; "replay: standard input cannot be read");
+        }
     }
 }

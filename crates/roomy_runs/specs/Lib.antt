@@ -4,5 +4,3 @@ pub mod Books
 pub mod Lent
 pub mod Statements
 pub mod Samples
-pub mod Laws
-pub mod Cards

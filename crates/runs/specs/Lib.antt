@@ -5,5 +5,3 @@ pub mod Runs
 pub mod InPlace
 pub mod Apart
 pub mod Theorem
-pub mod Laws
-pub mod Cards

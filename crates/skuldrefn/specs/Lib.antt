@@ -1,3 +1,1 @@
 pub mod Flat
-pub mod Laws
-pub mod Cards

@@ -34,8 +34,7 @@ pub struct FlatCountedStep {
 // table, the dropped count, and the counts of the new table; those by PCID are changed in place. A tally that does not
 // match the old table, or has not 4,096 counts by PCID, is refused with 13. A refusal writes nothing and hands back the
 // context and the counts as they came.
-#[unsafe(no_mangle)]
-pub extern "C" fn skuldrefn_step(
+pub fn skuldrefn_step(
     context: FlatContext,
     kinds: FlatKinds,
     pcids: &mut [u16],
@@ -70,8 +69,7 @@ pub extern "C" fn skuldrefn_step(
 }
 
 // One step without a tally. A refusal writes nothing and hands back the context as it came.
-#[unsafe(no_mangle)]
-pub extern "C" fn skuldrefn_plain_step(
+pub fn skuldrefn_plain_step(
     context: FlatContext,
     table: &[u8],
     event: &[u8],
@@ -100,8 +98,7 @@ pub struct FlatCounts {
 // Counts the records of a table at a linear width; any width but 57 is read as 48. The answer is 2 or 3, of the table,
 // or 13, where there are not 4,096 counts for the PCIDs, else 0. A refusal leaves these as they are, and the counts by
 // kind and span are 0.
-#[unsafe(no_mangle)]
-pub extern "C" fn skuldrefn_count(linear_width: u64, table: &[u8], pcids: &mut [u16]) -> FlatCounts
+pub fn skuldrefn_count(linear_width: u64, table: &[u8], pcids: &mut [u16]) -> FlatCounts
     ensures value { result ≡ flat_counts linear_width table.now (length pcids.old) }
     ensures pcids_after { pcids.new ≡ table_pcid_counts linear_width table.now pcids.old }
 {
@@ -143,21 +140,14 @@ fn look_up(context: FlatContext, a: Address, table: &[u8], k: u64) -> FlatPart
 }
 
 // The k-th record, from 0, that is usable at a linear address, as a part of the table.
-#[unsafe(no_mangle)]
-pub extern "C" fn skuldrefn_lookup_linear(
-    context: FlatContext,
-    table: &[u8],
-    address: u64,
-    k: u64,
-) -> FlatPart
+pub fn skuldrefn_lookup_linear(context: FlatContext, table: &[u8], address: u64, k: u64) -> FlatPart
     ensures { result ≡ flat_lookup context (Address.Linear address) table.now k }
 {
     look_up(context, Address::Linear(address), table, k)
 }
 
 // The k-th record, from 0, that is usable at a guest-physical address, as a part of the table.
-#[unsafe(no_mangle)]
-pub extern "C" fn skuldrefn_lookup_guest_physical(
+pub fn skuldrefn_lookup_guest_physical(
     context: FlatContext,
     table: &[u8],
     address: u64,
@@ -171,8 +161,7 @@ pub extern "C" fn skuldrefn_lookup_guest_physical(
 // One step of two tables, a first-level one before a second-level one, each beside its tally and into its own buffer. The
 // answer is the first table's, or the second's where that is 0. Where either is refused, nothing is written, and the context
 // and the counts come back as they came; else a creation goes into both.
-#[unsafe(no_mangle)]
-pub extern "C" fn skuldrefn_step_levels(
+pub fn skuldrefn_step_levels(
     context: FlatContext,
     event: &[u8],
     kinds: FlatKinds,
@@ -208,8 +197,7 @@ pub extern "C" fn skuldrefn_step_levels(
 
 // The first usable translation at a linear address, as a part of the first-level table if that has one, else of the
 // second-level one. The part is empty where there is none or either table is refused.
-#[unsafe(no_mangle)]
-pub extern "C" fn skuldrefn_lookup_levels(
+pub fn skuldrefn_lookup_levels(
     context: FlatContext,
     first: &[u8],
     second: &[u8],
@@ -233,8 +221,7 @@ pub struct FlatReason {
 }
 
 // Why the event drops the record in the bytes or leaves it.
-#[unsafe(no_mangle)]
-pub extern "C" fn skuldrefn_explain(context: FlatContext, bytes: &[u8], event: &[u8]) -> FlatReason
+pub fn skuldrefn_explain(context: FlatContext, bytes: &[u8], event: &[u8]) -> FlatReason
     ensures { result ≡ flat_explanation context bytes.now event.now }
 {
     if !flat_contexts::is_known(context) {
@@ -254,8 +241,7 @@ pub extern "C" fn skuldrefn_explain(context: FlatContext, bytes: &[u8], event: &
 
 // Rewrites a stored 48-bit table as a 57-bit one: the answer, 2, 3 or 12, and the length of the new table. A refusal
 // writes nothing.
-#[unsafe(no_mangle)]
-pub extern "C" fn skuldrefn_widen(table: &[u8], new: &mut [u8]) -> Widened
+pub fn skuldrefn_widen(table: &[u8], new: &mut [u8]) -> Widened
     ensures value { result ≡ widening table.now (length new.old) }
     ensures after { new.new ≡ widening_written table.now new.old }
 {
@@ -264,8 +250,7 @@ pub extern "C" fn skuldrefn_widen(table: &[u8], new: &mut [u8]) -> Widened
 
 // Writes the rows of a table, 32 bytes for each record: the answer, 1, 2, 3 or 12, row 0, and how long the rows are. A
 // refusal writes nothing.
-#[unsafe(no_mangle)]
-pub extern "C" fn skuldrefn_export(linear_width: u64, table: &[u8], rows: &mut [u8]) -> Converted
+pub fn skuldrefn_export(linear_width: u64, table: &[u8], rows: &mut [u8]) -> Converted
     ensures value { result ≡ exporting linear_width table.now (length rows.old) }
     ensures rows_after { rows.new ≡ exporting_written linear_width table.now rows.old }
 {
@@ -274,8 +259,7 @@ pub extern "C" fn skuldrefn_export(linear_width: u64, table: &[u8], rows: &mut [
 
 // Writes the table that rows make: the answer, 1, 4 or 12; the number of the first bad row, from 1, where that is the
 // ground, else 0; and the length of the table. A refusal writes nothing.
-#[unsafe(no_mangle)]
-pub extern "C" fn skuldrefn_import(linear_width: u64, rows: &[u8], table: &mut [u8]) -> Converted
+pub fn skuldrefn_import(linear_width: u64, rows: &[u8], table: &mut [u8]) -> Converted
     ensures value { result ≡ importing linear_width rows.now (length table.old) }
     ensures table_after { table.new ≡ importing_written linear_width rows.now table.old }
 {
@@ -285,8 +269,7 @@ pub extern "C" fn skuldrefn_import(linear_width: u64, rows: &[u8], table: &mut [
 // Judges a claimed table after an event: 0, it is an in-order part of what the step leaves; 1, the step is refused, with
 // its answer and the rule of the EPTP that goes with it; 2, the claim is malformed; 3, the record at a byte position of
 // it cannot be matched.
-#[unsafe(no_mangle)]
-pub extern "C" fn skuldrefn_judge(
+pub fn skuldrefn_judge(
     context: FlatContext,
     table: &[u8],
     event: &[u8],
@@ -311,8 +294,7 @@ pub struct FlatWalk {
 }
 
 // Walks the guest's tables in an image of memory, through the EPT of an EPTP, for a linear address.
-#[unsafe(no_mangle)]
-pub extern "C" fn skuldrefn_walk(
+pub fn skuldrefn_walk(
     context: FlatContext,
     image: &[u8],
     root: u64,
@@ -349,8 +331,7 @@ pub extern "C" fn skuldrefn_walk(
 
 // How many bytes the first event of a log has by its kind, more than the log where the record is cut; 0
 // where the kind is unknown at the linear width or there is no byte. Any width but 57 is read as 48.
-#[unsafe(no_mangle)]
-pub extern "C" fn skuldrefn_event_length(linear_width: u64, log: &[u8]) -> usize
+pub fn skuldrefn_event_length(linear_width: u64, log: &[u8]) -> usize
     ensures { result ≡ told_length linear_width log.now }
 {
     logs::length_of_event(linear_width, log)
@@ -376,8 +357,7 @@ fn number_of(b: bool) -> u64
 
 // Replays the events of a log from a reset with a capability and two widths, through two buffers, and
 // writes a row of 24 bytes for each event, as many as there is room for.
-#[unsafe(no_mangle)]
-pub extern "C" fn skuldrefn_replay(
+pub fn skuldrefn_replay(
     capability: u64,
     width: u64,
     linear_width: u64,
@@ -411,8 +391,7 @@ pub extern "C" fn skuldrefn_replay(
 // one step beside the tally, as of skuldrefn_step; the kinds are those of the context's linear width. Where no event is
 // finished, finished is 0, the step's numbers are 0, and its context and the counts are as they came. A reader that ignores
 // takes the whole fragment and is handed back as it came.
-#[unsafe(no_mangle)]
-pub extern "C" fn skuldrefn_take(
+pub fn skuldrefn_take(
     reader: FlatReader,
     context: FlatContext,
     kinds: FlatKinds,
@@ -430,20 +409,14 @@ pub extern "C" fn skuldrefn_take(
 
 // Ends a log that came in fragments: bytes that are held are reported as a cut record, with answer 1, 2 or 3, else 4. The
 // reader ignores all later fragments and finish calls.
-#[unsafe(no_mangle)]
-pub extern "C" fn skuldrefn_finish(
-    reader: FlatReader,
-    context: FlatContext,
-    table: &[u8],
-) -> FlatFinished
+pub fn skuldrefn_finish(reader: FlatReader, context: FlatContext, table: &[u8]) -> FlatFinished
     ensures { result ≡ flat_finished reader context table.now }
 {
     flat_fragments::finish(reader, context, table)
 }
 
 // A reset of the reader: it holds nothing and does not ignore. The line number stays.
-#[unsafe(no_mangle)]
-pub extern "C" fn skuldrefn_reset_reader(reader: FlatReader) -> FlatReader
+pub fn skuldrefn_reset_reader(reader: FlatReader) -> FlatReader
     ensures { result ≡ flat_emptied reader }
 {
     flat_fragments::reset(reader)

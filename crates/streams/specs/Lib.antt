@@ -4,5 +4,3 @@ pub mod Streams
 pub mod Theorem
 pub mod AnyStart
 pub mod Apart
-pub mod Laws
-pub mod Cards

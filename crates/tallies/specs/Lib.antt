@@ -1,3 +1,2 @@
 -- The tally of a table; and, apart from the definitions, the laws about them.
 pub mod Tallies
-pub mod Laws

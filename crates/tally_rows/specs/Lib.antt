@@ -1,3 +1,2 @@
 -- The rows of a tally; and, apart from the definitions, the laws about them.
 pub mod Rows
-pub mod Laws

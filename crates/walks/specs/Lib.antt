@@ -1,4 +1,2 @@
 pub mod Walks
 pub mod Theorem
-pub mod Laws
-pub mod Cards

@@ -2,7 +2,7 @@
 use Prim.Native.Nat.{◌-◌}
 use mathlib.Core.Path.{sym}
 use native.Mathlib.Omega.{arith}
-use Rattle.claims.specs.Laws.Bytes.{starts_with_short, starting_start, starting_other, starting_next, starting_end}
+use Rattle.claims.proofs.Laws.Bytes.{starts_with_short, starting_start, starting_other, starting_next, starting_end}
 use Rattle.claims.proofs.is_starting_with.Goals as goal
 
 pub returns-then-bytes-front : goal.returns-then-bytes-front

@@ -1,6 +1,6 @@
 use Prim.Native.Nat.{◌-◌}
 use lib.ListN.{length}
-use Rattle.claims.specs.Laws.Bytes.{Starting}
+use Rattle.claims.proofs.Laws.Bytes.{Starting}
 use Rattle.claims.proofs.is_starting_with.Given as goal
 
 abbrev pub invariant-loop-i : goal.invariant-loop-i

@@ -9,7 +9,7 @@ use Rattle.laws.specs.Answers.{answer_of_table, answer_of_invalid, stored_valid,
 use Rattle.laws.specs.Events.{valid_event_read, valid_event_invalid}
 use Rattle.laws.specs.Rules.{rule_below_8, table_answer_below_8}
 use Rattle.laws.specs.Steps.{judged_whole}
-use Rattle.claims.specs.Laws.Judgements.{malformed_stored, malformed_valid, judgement_refused, judgement_malformed, judgement_matched}
+use Rattle.claims.proofs.Laws.Judgements.{malformed_stored, malformed_valid, judgement_refused, judgement_malformed, judgement_matched}
 use Rattle.claims.proofs.judge.Goals as goal
 use Rattle.claims.proofs.judge.Goals.{Else-answer-ne0, Else-claimed-ne0, Else-ground-ne0, In-Read}
 

@@ -4,8 +4,8 @@ use Rattle.model.specs.Tables.{records}
 use Rattle.model.specs.Steps.{new_table}
 use Rattle.claims.specs.Claims.{matched}
 use Rattle.claims.specs.Matching.{judged_at}
-use Rattle.claims.specs.Laws.Matching.{matched_new_table}
-use Rattle.claims.specs.Laws.Judgements.{judged_at_end, judged_at_record}
+use Rattle.claims.proofs.Laws.Matching.{matched_new_table}
+use Rattle.claims.proofs.Laws.Judgements.{judged_at_end, judged_at_record}
 use Rattle.claims.proofs.match_claim.Goals as goal
 use Rattle.claims.proofs.match_claim.Goals.{After-pass_creation-reached}
 

@@ -1,7 +1,7 @@
 -- Nothing is added; or a creation, which the claim goes on with or not.
 use mathlib.Core.Path.{sym, ◌∙◌}
 use Rattle.laws.specs.Tables.{rest_of_drop}
-use Rattle.claims.specs.Laws.Matching.{passes_nothing, passes_creation, passes_no_creation}
+use Rattle.claims.proofs.Laws.Matching.{passes_nothing, passes_creation, passes_no_creation}
 use Rattle.claims.proofs.pass_creation.Goals as goal
 
 pub returns-then-created_records-eq0 : goal.returns-then-created_records-eq0

@@ -9,7 +9,7 @@ use Rattle.model.specs.Mappings.{mapping}
 use Rattle.model.specs.Scopes.{scope}
 use Rattle.laws.specs.Tables.{rest_of_drop, Next, held_of_whole, next_of_whole}
 use Rattle.claims.specs.Matching.{starts_with}
-use Rattle.claims.specs.Laws.Matching.{starts_with_parts, Matching, matching_start, matching_end, matching_gone, matching_matched, matching_past}
+use Rattle.claims.proofs.Laws.Matching.{starts_with_parts, Matching, matching_start, matching_end, matching_gone, matching_matched, matching_past}
 use Rattle.std.proofs.Common.{ap}
 use Rattle.std.proofs.Common.{not}
 use Rattle.claims.proofs.pass_left.Goals as goal

@@ -1,7 +1,7 @@
 use Prim.Native.Nat.{◌-◌}
 use lib.ListN.{length}
 use Rattle.model.specs.Scopes.{scope}
-use Rattle.claims.specs.Laws.Matching.{Matching}
+use Rattle.claims.proofs.Laws.Matching.{Matching}
 use Rattle.claims.proofs.pass_left.Given as goal
 
 abbrev pub invariant-loop-at : goal.invariant-loop-at

@@ -1,6 +1,6 @@
 -- The answer of the context and the table, or 4.
 use mathlib.Core.Path.{sym, ◌∙◌}
-use Rattle.counted_steps.specs.Laws.Steps.{invalid_of_table, invalid_is_4}
+use Rattle.counted_steps.proofs.Laws.Steps.{invalid_of_table, invalid_is_4}
 use Rattle.counted_steps.proofs.answer_to_invalid.Goals as goal
 
 pub returns-then-answer-ne0 : goal.returns-then-answer-ne0

@@ -5,7 +5,7 @@ use Rattle.model.specs.Events.{event}
 use Rattle.model.specs.Answers.{valid_here}
 use Rattle.laws.specs.Events.{valid_event_read, valid_event_invalid}
 use Rattle.laws.specs.Rules.{rule_below_8}
-use Rattle.counted_steps.specs.Laws.Steps.{counted_of_invalid, invalid_refused, counted_step_refused}
+use Rattle.counted_steps.proofs.Laws.Steps.{counted_of_invalid, invalid_refused, counted_step_refused}
 use Rattle.counted_steps.proofs.counted_step.Goals as goal
 use Rattle.counted_steps.proofs.counted_step.Goals.{In-Read}
 

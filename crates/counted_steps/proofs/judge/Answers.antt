@@ -6,8 +6,8 @@ use native.Mathlib.Omega.{arith}
 use Rattle.model.specs.Answers.{first, table_grounds}
 use Rattle.laws.specs.Answers.{table_grounds_out_of_range, table_grounds_in_range}
 use Rattle.laws.specs.Rules.{rule_below_8, table_answer_below_8}
-use Rattle.tables.specs.Laws.Counts.{judged_answer, judged_records_counted, judged_matching, judged_cells}
-use Rattle.counted_steps.specs.Laws.Steps.{counted_of_table, counted_of_other, counted_answer_matching, matching_counts, shown_refused}
+use Rattle.tables.proofs.Laws.Counts.{judged_answer, judged_records_counted, judged_matching, judged_cells}
+use Rattle.counted_steps.proofs.Laws.Steps.{counted_of_table, counted_of_other, counted_answer_matching, matching_counts, shown_refused}
 use Rattle.std.proofs.Common.{ap}
 use Rattle.std.proofs.Common.{not}
 use Rattle.counted_steps.proofs.judge.Goals as goal

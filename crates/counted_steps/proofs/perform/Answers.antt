@@ -2,9 +2,9 @@
 use mathlib.Core.Path.{refl, ◌∙◌}
 use Rattle.laws.specs.Answers.{accepted_parts}
 use Rattle.laws.specs.Steps.{step_accepted}
-use Rattle.steps.specs.Laws.Counts.{records_after_accepted}
-use Rattle.steps.specs.Laws.Acceptances.{acceptance_accepted}
-use Rattle.counted_steps.specs.Laws.Steps.{shown_accepted, counted_step_matching}
+use Rattle.steps.proofs.Laws.Counts.{records_after_accepted}
+use Rattle.steps.proofs.Laws.Acceptances.{acceptance_accepted}
+use Rattle.counted_steps.proofs.Laws.Steps.{shown_accepted, counted_step_matching}
 use Rattle.counted_steps.proofs.perform.Goals as goal
 
 pub perform-performed-requires : goal.perform-performed-requires

@@ -1,7 +1,7 @@
 -- Nothing is counted, or nothing is created, or the creation is added.
 use borrow.Author.Tests.{not-true, not-false}
 use mathlib.Core.Path.{sym, ◌∙◌}
-use Rattle.creations.specs.Laws.Counts.{cells_with_other, pcids_with_other, cells_with_own, pcids_with_own}
+use Rattle.creations.proofs.Laws.Counts.{cells_with_other, pcids_with_other, cells_with_own, pcids_with_own}
 use Rattle.std.proofs.Common.{ap}
 use Rattle.std.proofs.Common.{not}
 use Rattle.creations.proofs.count_creation.Goals as goal

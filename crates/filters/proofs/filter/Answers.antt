@@ -8,8 +8,8 @@ use Rattle.model.specs.Mappings.{mapping}
 use Rattle.model.specs.Scopes.{passed}
 use Rattle.queries.specs.Queries.{query_tests}
 use Rattle.laws.specs.Tables.{rest_of_drop, Next, held_of_whole, next_of_whole}
-use Rattle.filters.specs.Laws.Filtering.{filtering_start, filtering_room, filtering_out, filtering_in, filtering_end}
-use Rattle.filters.specs.Laws.Dropping.{dropping_start, dropping_ready, dropping_end, filtering_left, filtering_counted, filtering_uncounted}
+use Rattle.filters.proofs.Laws.Filtering.{filtering_start, filtering_room, filtering_out, filtering_in, filtering_end}
+use Rattle.filters.proofs.Laws.Dropping.{dropping_start, dropping_ready, dropping_end, filtering_left, filtering_counted, filtering_uncounted}
 use Rattle.filters.proofs.filter.Goals as goal
 use Rattle.filters.proofs.filter.Goals.{After-is_passing, After-length_of_held, else-counting, then-counting}
 

@@ -2,7 +2,7 @@ use Prim.Native.Nat.{◌-◌}
 use lib.ListN.{length}
 use Rattle.model.specs.Scopes.{passed}
 use Rattle.queries.specs.Queries.{query_tests}
-use Rattle.filters.specs.Laws.Dropping.{FilteringCounting}
+use Rattle.filters.proofs.Laws.Dropping.{FilteringCounting}
 use Rattle.filters.proofs.filter.Given as goal
 
 abbrev pub invariant-loop-at : goal.invariant-loop-at

@@ -6,9 +6,9 @@ use mathlib.Core.Path.{refl, sym, ◌∙◌}
 use native.Mathlib.Nat.{zero-add}
 use Rattle.model.specs.Scopes.{has_scope, scope}
 use Rattle.laws.specs.Scopes.{out_of_scope}
-use Rattle.queries.specs.Laws.Queries.{passed_scope}
-use Rattle.tallies.specs.Laws.Tallied.{tallied_nil, length_tallied}
-use Rattle.filters.specs.Laws.Filters.{left_all, filters_all, left_none, filters_none, left_agree, filters_agree}
+use Rattle.queries.proofs.Laws.Queries.{passed_scope}
+use Rattle.tallies.proofs.Laws.Tallied.{tallied_nil, length_tallied}
+use Rattle.filters.proofs.Laws.Filters.{left_all, filters_all, left_none, filters_none, left_agree, filters_agree}
 use Rattle.std.proofs.Common.{ap}
 use Rattle.std.proofs.Common.{not}
 use Rattle.filters.proofs.filter_event.Goals as goal

@@ -7,9 +7,9 @@ use lib.ListN.{length}
 use Rattle.model.specs.Context.{linear_width_in_range}
 use Rattle.model.specs.Answers.{first, stored_grounds}
 use Rattle.laws.specs.Answers.{stored_valid, valid_table_parts}
-use Rattle.tables.specs.Laws.Judged.{judged_records_whole}
+use Rattle.tables.proofs.Laws.Judged.{judged_records_whole}
 use Rattle.fixed_rows.specs.FixedRows.{exported}
-use Rattle.fixed_rows.specs.Laws.Answers.{width_out, width_in, length_exported, records_few, export_width, export_invalid, export_no_room, export_accepted}
+use Rattle.fixed_rows.proofs.Laws.Answers.{width_out, width_in, length_exported, records_few, export_width, export_invalid, export_no_room, export_accepted}
 use Rattle.fixed_rows.proofs.export.Goals as goal
 use Rattle.fixed_rows.proofs.export.Goals.{Else-judged-ne0, Else-width}
 

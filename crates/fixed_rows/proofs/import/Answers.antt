@@ -4,8 +4,8 @@ use mathlib.Core.Bool.{true}
 use lib.ListN.{length}
 use Rattle.model.specs.Context.{linear_width_in_range}
 use Rattle.fixed_rows.specs.FixedRows.{first_bad, imported}
-use Rattle.fixed_rows.specs.Laws.Rows.{named_of_good}
-use Rattle.fixed_rows.specs.Laws.Answers.{width_out, width_in, import_width, import_cut, import_bad, import_no_room, import_fits, import_accepted}
+use Rattle.fixed_rows.proofs.Laws.Rows.{named_of_good}
+use Rattle.fixed_rows.proofs.Laws.Answers.{width_out, width_in, import_width, import_cut, import_bad, import_no_room, import_fits, import_accepted}
 use Rattle.fixed_rows.proofs.import.Goals as goal
 use Rattle.fixed_rows.proofs.import.Goals.{Else-judged-ne0, Else-width}
 

@@ -1,7 +1,7 @@
 -- The loop stops at the first bad row, and else adds up the lengths of the records.
 use Prim.Native.Nat.{◌-◌}
 use native.Mathlib.Omega.{arith}
-use Rattle.fixed_rows.specs.Laws.Loops.{at_fits, at_size, lent, judging_start, judging_bad, judging_turn, judging_clean, judging_size}
+use Rattle.fixed_rows.proofs.Laws.Loops.{at_fits, at_size, lent, judging_start, judging_bad, judging_turn, judging_clean, judging_size}
 use Rattle.fixed_rows.proofs.judge_rows.Goals as goal
 
 pub loop-at-init : goal.loop-at-init

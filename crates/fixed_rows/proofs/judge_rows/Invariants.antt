@@ -1,6 +1,6 @@
 use Prim.Native.Nat.{◌-◌}
 use lib.ListN.{length}
-use Rattle.fixed_rows.specs.Laws.Loops.{Judging}
+use Rattle.fixed_rows.proofs.Laws.Loops.{Judging}
 use Rattle.fixed_rows.proofs.judge_rows.Given as goal
 
 abbrev pub invariant-loop-at : goal.invariant-loop-at

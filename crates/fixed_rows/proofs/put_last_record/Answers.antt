@@ -8,8 +8,8 @@ use Rattle.model.specs.Bits.{bytes}
 use Rattle.model.specs.Buffers.{put}
 use Rattle.laws.specs.Layouts.{length_of_mapping_le}
 use Rattle.fixed_rows.specs.FixedRows.{record_named}
-use Rattle.fixed_rows.specs.Laws.Rows.{length_record_named}
-use Rattle.fixed_rows.specs.Laws.Loops.{put_cut}
+use Rattle.fixed_rows.proofs.Laws.Rows.{length_record_named}
+use Rattle.fixed_rows.proofs.Laws.Loops.{put_cut}
 use Rattle.fixed_rows.proofs.put_last_record.Goals as goal
 use Rattle.fixed_rows.proofs.put_last_record.Goals.{After-put_record-length}
 

@@ -4,7 +4,7 @@ use Prim.Native.Nat.{◌+◌, ◌-◌, ◌<◌}
 use mathlib.Core.Path.{◌≡◌, ◌∙◌}
 use native.Mathlib.Omega.{arith}
 use lib.ListN.{length}
-use Rattle.fixed_rows.specs.Laws.Loops.{at_fits, at_size, lent, importing_start, importing_fitting, importing_room, importing_last, importing_room_over, importing_turn, importing_end}
+use Rattle.fixed_rows.proofs.Laws.Loops.{at_fits, at_size, lent, importing_start, importing_fitting, importing_room, importing_last, importing_room_over, importing_turn, importing_end}
 use Rattle.fixed_rows.proofs.put_records.Goals as goal
 use Rattle.fixed_rows.proofs.put_records.Goals.{Then-at-rows}
 

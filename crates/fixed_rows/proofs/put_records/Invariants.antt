@@ -1,6 +1,6 @@
 use Prim.Native.Nat.{◌-◌}
 use lib.ListN.{length}
-use Rattle.fixed_rows.specs.Laws.Loops.{Importing}
+use Rattle.fixed_rows.proofs.Laws.Loops.{Importing}
 use Rattle.fixed_rows.proofs.put_records.Given as goal
 
 abbrev pub invariant-loop-at : goal.invariant-loop-at

@@ -5,7 +5,7 @@ use native.Mathlib.Omega.{arith}
 use lib.ListN.{take, drop}
 use Rattle.model.specs.Mappings.{Held}
 use Rattle.laws.specs.Tables.{rest_of_drop, Next, held_of_whole, next_of_whole, held_of_next}
-use Rattle.fixed_rows.specs.Laws.Loops.{exporting_start, exporting_room, exporting_turn, exporting_end}
+use Rattle.fixed_rows.proofs.Laws.Loops.{exporting_start, exporting_room, exporting_turn, exporting_end}
 use Rattle.fixed_rows.proofs.put_rows.Goals as goal
 use Rattle.fixed_rows.proofs.put_rows.Goals.{After-length_of_held}
 

@@ -1,6 +1,6 @@
 -- The ground of the table, or 4.
 use mathlib.Core.Path.{sym, ◌∙◌}
-use Rattle.fragments.specs.Laws.Calls.{cut_answer_none, cut_answer_some}
+use Rattle.fragments.proofs.Laws.Calls.{cut_answer_none, cut_answer_some}
 use Rattle.fragments.proofs.answer_to_cut.Goals as goal
 
 pub returns-then-answer-eq0 : goal.returns-then-answer-eq0

@@ -2,8 +2,8 @@
 use mathlib.Core.Bool.{false}
 use mathlib.Core.Path.{◌≡◌, sym, ◌∙◌}
 use Rattle.readers.specs.Readers.{counts_as_ignoring}
-use Rattle.readers.specs.Laws.Readers.{listening}
-use Rattle.fragments.specs.Laws.Calls.{length_gathered, size_told, kind_told, not_complete, room_to_hold, is_complete, event_within, event_told, held_within, take_ignored, take_held, take_finished}
+use Rattle.readers.proofs.Laws.Readers.{listening}
+use Rattle.fragments.proofs.Laws.Calls.{length_gathered, size_told, kind_told, not_complete, room_to_hold, is_complete, event_within, event_told, held_within, take_ignored, take_held, take_finished}
 use Rattle.fragments.proofs.take.Goals as goal
 use Rattle.fragments.proofs.take.Goals.{After-gather-all}
 

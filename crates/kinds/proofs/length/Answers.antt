@@ -2,7 +2,7 @@
 use mathlib.Core.Path.{refl, ◌∙◌}
 use native.Mathlib.Omega.{arith}
 use Rattle.model.specs.Layouts.{event_kind, length_of, body_of}
-use Rattle.kinds.specs.Laws.Places.{numbers_of_lengths, length_from_12, length_from_28}
+use Rattle.kinds.proofs.Laws.Places.{numbers_of_lengths, length_from_12, length_from_28}
 use Rattle.kinds.proofs.length.Goals as goal
 
 pub returns-then-kind-lt12 : goal.returns-then-kind-lt12

@@ -3,7 +3,7 @@ use mathlib.Core.Path.{refl, ◌∙◌}
 use native.Mathlib.Omega.{arith}
 use Rattle.model.specs.Layouts.{length_of, body_of}
 use Rattle.laws.specs.Layouts.{mapping_kind_le}
-use Rattle.kinds.specs.Laws.Places.{numbers_of_mappings}
+use Rattle.kinds.proofs.Laws.Places.{numbers_of_mappings}
 use Rattle.kinds.proofs.length_of_mapping.Goals as goal
 
 pub number_at-requires : goal.number_at-requires

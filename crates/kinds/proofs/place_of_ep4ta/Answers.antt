@@ -4,7 +4,7 @@ use native.Mathlib.Omega.{arith}
 use Rattle.model.specs.Layouts.{Field, body_of}
 use Rattle.laws.specs.Layouts.{mapping_kind_le}
 use Rattle.kinds.specs.Places.{place_of}
-use Rattle.kinds.specs.Laws.Places.{numbers_of_mappings}
+use Rattle.kinds.proofs.Laws.Places.{numbers_of_mappings}
 use Rattle.kinds.proofs.place_of_ep4ta.Goals as goal
 
 pub number_at-requires : goal.number_at-requires

@@ -5,7 +5,7 @@ use native.Mathlib.Omega.{arith}
 use Rattle.model.specs.Layouts.{Field, body_of}
 use Rattle.laws.specs.Layouts.{mapping_kind_le}
 use Rattle.kinds.specs.Places.{place_of}
-use Rattle.kinds.specs.Laws.Places.{tested_of_mappings}
+use Rattle.kinds.proofs.Laws.Places.{tested_of_mappings}
 use Rattle.kinds.proofs.place_of_span.Goals as goal
 
 pub overflow_shr-result : goal.overflow_shr-result

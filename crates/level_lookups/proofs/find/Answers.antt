@@ -4,7 +4,7 @@ use mathlib.Core.Path.{◌≡◌, sym, ◌∙◌}
 use Rattle.model.specs.Mappings.{structure_cache}
 use Rattle.lookups.specs.Search.{AsksFor}
 use Rattle.level_lookups.specs.Levels.{usable_translation, lookup_levels_answer}
-use Rattle.level_lookups.specs.Laws.Levels.{translations, both_whole, found_refused, found_first, found_second, found_neither}
+use Rattle.level_lookups.proofs.Laws.Levels.{translations, both_whole, found_refused, found_first, found_second, found_neither}
 use Rattle.level_lookups.proofs.find.Goals as goal
 use Rattle.level_lookups.proofs.find.Goals.{After-sought_at_linear-asked}
 

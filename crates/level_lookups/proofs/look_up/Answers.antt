@@ -1,6 +1,6 @@
 -- The part stands in the second table exactly where level 2 is told, else in the first.
 use borrow.Author.Tests.{eq-eqb, ne_eqb}
-use Rattle.level_lookups.specs.Laws.Levels.{level_told, start_told}
+use Rattle.level_lookups.proofs.Laws.Levels.{level_told, start_told}
 use Rattle.level_lookups.proofs.look_up.Goals as goal
 
 pub slice_bounds-result-start : goal.slice_bounds-result-start

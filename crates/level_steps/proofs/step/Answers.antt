@@ -6,8 +6,8 @@ use Rattle.model.specs.Events.{event}
 use Rattle.model.specs.Answers.{valid_here}
 use Rattle.laws.specs.Events.{valid_event_read, valid_event_invalid}
 use Rattle.laws.specs.Rules.{rule_below_8}
-use Rattle.counted_steps.specs.Laws.Steps.{counted_of_invalid, invalid_refused}
-use Rattle.level_steps.specs.Laws.Levels.{refused_by_first, refused_by_second, levels_accepted}
+use Rattle.counted_steps.proofs.Laws.Steps.{counted_of_invalid, invalid_refused}
+use Rattle.level_steps.proofs.Laws.Levels.{refused_by_first, refused_by_second, levels_accepted}
 use Rattle.level_steps.proofs.step.Goals as goal
 use Rattle.level_steps.proofs.step.Goals.{In-Read}
 

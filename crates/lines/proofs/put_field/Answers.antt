@@ -5,7 +5,7 @@ use native.Mathlib.Omega.{arith}
 use lib.ListN.{length, take, length-append}
 use Rattle.lines.specs.Text.{decimal}
 use Rattle.laws.specs.Buffers.{put_more}
-use Rattle.lines.specs.Laws.Text.{decimal_digits, length_decimal}
+use Rattle.lines.proofs.Laws.Text.{decimal_digits, length_decimal}
 use Rattle.lines.proofs.put_field.Goals as goal
 use Rattle.lines.proofs.put_field.Goals.{After-decimal-count, After-slice_known-2-1}
 
@@ -13,7 +13,7 @@ use Rattle.lines.proofs.put_field.Goals.{After-decimal-count, After-slice_known-
 text-is : (c : After-decimal-count)
     → take c.decimal-count.result c.decimal-count.new.out ≡ decimal c.args.n
 text-is c =
-    c.decimal-count.ensures.?
+    c.decimal-count.ensures.digits
     ∙ decimal_digits c.args.n c.decimal-count.result c.ranges.n.fits c.decimal-count.ensures.len
 
 pub put-last-requires : goal.put-last-requires

@@ -1,7 +1,7 @@
 -- Each number and the byte behind it take at most 21 bytes.
 use Prim.Native.Nat.{◌+◌, ◌≤◌}
 use native.Mathlib.Omega.{arith}
-use Rattle.lines.specs.Laws.Text.{length_field, four_fields}
+use Rattle.lines.proofs.Laws.Text.{length_field, four_fields}
 use Rattle.lines.proofs.put_line.Goals as goal
 use Rattle.lines.proofs.put_line.Goals.{After-put_field-fourth, After-put_field-second, After-put_field-third}
 

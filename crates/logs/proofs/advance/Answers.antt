@@ -5,8 +5,8 @@ use native.Mathlib.Omega.{arith}
 use lib.ListN.{length, drop}
 use Rattle.laws.specs.Tables.{rest_of_drop}
 use Rattle.logs.specs.Logs.{event_size}
-use Rattle.logs.specs.Laws.Logs.{event_size_within}
-use Rattle.logs.specs.Laws.Progress.{advances}
+use Rattle.logs.proofs.Laws.Logs.{event_size_within}
+use Rattle.logs.proofs.Laws.Progress.{advances}
 use Rattle.logs.proofs.advance.Goals as goal
 use Rattle.logs.proofs.advance.Goals.{After-size_of_event}
 

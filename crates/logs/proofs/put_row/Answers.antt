@@ -1,6 +1,6 @@
 -- The three numbers of the line, one behind the other.
 use Rattle.logs.specs.Replays.{Line}
-use Rattle.logs.specs.Laws.Rows.{put_row}
+use Rattle.logs.proofs.Laws.Rows.{put_row}
 use Rattle.logs.proofs.put_row.Goals as goal
 
 pub returns : goal.returns

@@ -4,9 +4,9 @@ use Prim.Native.Nat.{◌-◌, ◌/◌}
 use native.Mathlib.Omega.{arith}
 use lib.ListN.{length}
 use Rattle.logs.specs.Progress.{begun, Ready}
-use Rattle.logs.specs.Laws.Lines.{by_the_book}
-use Rattle.logs.specs.Laws.Progress.{ready_begun, at_increases, Going, going, none_from, taking_end}
-use Rattle.logs.specs.Laws.Replaying.{replaying_start, replaying_turn, length_written, written_end, replays}
+use Rattle.logs.proofs.Laws.Lines.{by_the_book}
+use Rattle.logs.proofs.Laws.Progress.{ready_begun, at_increases, Going, going, none_from, taking_end}
+use Rattle.logs.proofs.Laws.Replaying.{replaying_start, replaying_turn, length_written, written_end, replays}
 use Rattle.logs.proofs.replay.Goals as goal
 use Rattle.logs.proofs.replay.Goals.{In-loop-p}
 

@@ -1,6 +1,6 @@
 use Prim.Native.Nat.{◌-◌}
 use lib.ListN.{length}
-use Rattle.logs.specs.Laws.Replaying.{Replaying}
+use Rattle.logs.proofs.Laws.Replaying.{Replaying}
 use Rattle.logs.proofs.replay.Given as goal
 
 abbrev pub invariant-loop-p : goal.invariant-loop-p

@@ -1,6 +1,6 @@
 -- The length that is told, or what is left.
 use mathlib.Core.Path.{sym}
-use Rattle.logs.specs.Laws.Logs.{event_size_told}
+use Rattle.logs.proofs.Laws.Logs.{event_size_told}
 use Rattle.logs.proofs.size_of_event.Goals as goal
 
 pub returns-then-length-size : goal.returns-then-length-size

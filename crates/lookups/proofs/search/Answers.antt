@@ -3,7 +3,7 @@ use Prim.Native.Nat.{◌-◌}
 use native.Mathlib.Omega.{arith}
 use mathlib.Core.Bool.{true}
 use Rattle.laws.specs.Tables.{Next, whole_rest, held_of_whole, next_of_whole}
-use Rattle.lookups.specs.Laws.Searching.{search_start, search_end, search_skip, search_next, search_found}
+use Rattle.lookups.proofs.Laws.Searching.{search_start, search_end, search_skip, search_next, search_found}
 use Rattle.lookups.proofs.search.Goals as goal
 use Rattle.lookups.proofs.search.Goals.{After-length_of_held}
 

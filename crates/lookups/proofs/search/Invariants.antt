@@ -5,7 +5,7 @@ use mathlib.Core.Path.{◌≡◌}
 use Rattle.model.specs.declared.Mapping.{Mapping}
 use Rattle.model.specs.Tables.{whole}
 use Rattle.lookups.specs.Search.{AsksFor}
-use Rattle.lookups.specs.Laws.Searching.{Searching}
+use Rattle.lookups.proofs.Laws.Searching.{Searching}
 use Rattle.lookups.proofs.search.Given as goal
 
 abbrev pub invariant-loop-at : goal.invariant-loop-at

@@ -1,6 +1,6 @@
 -- Each of the two sorts of address has its own function.
 use mathlib.Core.Bool.{true}
-use Rattle.lookups.specs.Laws.Seeking.{every_set, every_linear}
+use Rattle.lookups.proofs.Laws.Seeking.{every_set, every_linear}
 use Rattle.lookups.proofs.sought_at.Goals as goal
 
 pub returns-in-Linear : goal.returns-in-Linear

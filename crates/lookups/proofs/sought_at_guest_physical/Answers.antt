@@ -1,7 +1,7 @@
 -- An address of 2^48 or more has no usable record, and none has one with EPT off.
 use mathlib.Core.Path.{sym, ◌∙◌}
 use borrow.Author.Tests.{lt-ltb, le-ltb}
-use Rattle.lookups.specs.Laws.Seeking.{seeks_nothing, seeks_guest_physical, too_high, ept_off}
+use Rattle.lookups.proofs.Laws.Seeking.{seeks_nothing, seeks_guest_physical, too_high, ept_off}
 use Rattle.lookups.proofs.sought_at_guest_physical.Goals as goal
 
 pub returns-then-address-ge-GUEST_PHYSICAL_LIMIT : goal.returns-then-address-ge-GUEST_PHYSICAL_LIMIT

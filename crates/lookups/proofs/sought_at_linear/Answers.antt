@@ -1,7 +1,7 @@
 -- An address that is not canonical has no usable record; otherwise the EPT state decides.
 use mathlib.Core.Path.{sym, ◌∙◌}
 use borrow.Author.Tests.{not-true, not-false}
-use Rattle.lookups.specs.Laws.Seeking.{seeks_nothing, seeks_linear, seeks_combined, not_canonical}
+use Rattle.lookups.proofs.Laws.Seeking.{seeks_nothing, seeks_linear, seeks_combined, not_canonical}
 use Rattle.std.proofs.Common.{ap}
 use Rattle.std.proofs.Common.{not}
 use Rattle.lookups.proofs.sought_at_linear.Goals as goal

@@ -3,7 +3,7 @@ use mathlib.Core.Path.{◌≡◌, sym, ◌∙◌}
 use Rattle.model.specs.Layouts.{Field, kind_of}
 use Rattle.model.specs.Mappings.{mapping}
 use Rattle.kinds.specs.Places.{place_of}
-use Rattle.mappings.specs.Laws.Places.{ep4ta_fits, ep4ta_none, ep4ta_some}
+use Rattle.mappings.proofs.Laws.Places.{ep4ta_fits, ep4ta_none, ep4ta_some}
 use Rattle.mappings.proofs.ep4ta.Goals as goal
 use Rattle.mappings.proofs.ep4ta.Goals.{After-place_of_ep4ta-place}
 

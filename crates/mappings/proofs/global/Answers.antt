@@ -3,7 +3,7 @@ use mathlib.Core.Path.{ap, ◌∙◌}
 use native.Mathlib.Omega.{arith}
 use Rattle.model.specs.Mappings.{global_marked}
 use Rattle.laws.specs.Mappings.{held_length, global_held}
-use Rattle.mappings.specs.Laws.Places.{read_where, none_where}
+use Rattle.mappings.proofs.Laws.Places.{read_where, none_where}
 use Rattle.mappings.proofs.global.Goals as goal
 
 pub number1-requires : goal.number1-requires

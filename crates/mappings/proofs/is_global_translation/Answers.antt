@@ -1,7 +1,7 @@
 -- The kinds with a mark have it at one place; every other kind is no global translation.
 use native.Mathlib.Omega.{arith}
 use Rattle.laws.specs.Mappings.{held_length}
-use Rattle.mappings.specs.Laws.Places.{global_tests}
+use Rattle.mappings.proofs.Laws.Places.{global_tests}
 use Rattle.mappings.proofs.is_global_translation.Goals as goal
 
 pub number1-requires : goal.number1-requires

@@ -3,7 +3,7 @@ use Prim.Native.Nat.{◌+◌}
 use mathlib.Core.Path.{◌≡◌, sym, ◌∙◌}
 use native.Mathlib.Omega.{arith}
 use Rattle.model.specs.Mappings.{mapping, wide}
-use Rattle.mappings.specs.Laws.Places.{page_bytes_some, number_six}
+use Rattle.mappings.proofs.Laws.Places.{page_bytes_some, number_six}
 use Rattle.mappings.proofs.page.Goals as goal
 use Rattle.mappings.proofs.page.Goals.{After-is_wide}
 

@@ -3,7 +3,7 @@ use mathlib.Core.Bool.{not}
 use mathlib.Core.Path.{ap, ◌∙◌}
 use Rattle.model.specs.Mappings.{guest_physical}
 use Rattle.laws.specs.Mappings.{pcid_held}
-use Rattle.mappings.specs.Laws.Places.{read_where, none_where}
+use Rattle.mappings.proofs.Laws.Places.{read_where, none_where}
 use Rattle.mappings.proofs.pcid.Goals as goal
 
 pub returns-then-not-is_guest_physical : goal.returns-then-not-is_guest_physical

@@ -1,6 +1,6 @@
 -- The number of its kind is where the layout has the span.
 use Rattle.model.specs.Mappings.{mapping}
-use Rattle.mappings.specs.Laws.Places.{span_at_held}
+use Rattle.mappings.proofs.Laws.Places.{span_at_held}
 use Rattle.mappings.proofs.span_at.Goals as goal
 
 pub place_of_span-requires : goal.place_of_span-requires

@@ -1,7 +1,7 @@
 -- The test by its parts; a known kind is below 64.
 use Rattle.laws.specs.Layouts.{mapping_kind_below}
 use Rattle.queries.specs.Queries.{of_pcid}
-use Rattle.queries.specs.Laws.Splitting.{known_kind, bit_where_all}
+use Rattle.queries.proofs.Laws.Splitting.{known_kind, bit_where_all}
 use Rattle.queries.proofs.is_of_pcid.Goals as goal
 
 pub is_among-requires : goal.is_among-requires

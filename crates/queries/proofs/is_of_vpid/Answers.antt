@@ -1,7 +1,7 @@
 -- The test by its two parts; the bytes of a guest-physical mapping do not count.
 use mathlib.Core.Path.{ap}
 use Rattle.queries.specs.Queries.{touched, query_tests}
-use Rattle.queries.specs.Laws.Splitting.{either}
+use Rattle.queries.proofs.Laws.Splitting.{either}
 use Rattle.queries.proofs.is_of_vpid.Goals as goal
 
 pub returns : goal.returns

@@ -1,5 +1,5 @@
 -- The kinds beside either sort of VPID.
-use Rattle.queries.specs.Laws.Splitting.{splits}
+use Rattle.queries.proofs.Laws.Splitting.{splits}
 use Rattle.queries.proofs.kinds_by_vpid.Goals as goal
 
 pub returns : goal.returns

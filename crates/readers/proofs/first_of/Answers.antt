@@ -1,6 +1,6 @@
 -- As many bytes as the kind tells, or one.
 use mathlib.Core.Path.{◌∙◌, sym}
-use Rattle.readers.specs.Laws.Readers.{first_unknown, first_known}
+use Rattle.readers.proofs.Laws.Readers.{first_unknown, first_known}
 use Rattle.readers.proofs.first_of.Goals as goal
 
 pub returns-then-told-eq0 : goal.returns-then-told-eq0

@@ -1,6 +1,6 @@
 -- The 24 places, and the front of the fragment behind the bytes held.
 use Rattle.std.proofs.Common.{◌≡◌, ◌-◌, min, length, arith, rules}
-use Rattle.readers.specs.Laws.Readers.{together}
+use Rattle.readers.proofs.Laws.Readers.{together}
 use Rattle.readers.proofs.gather.Goals as goal
 use Rattle.readers.proofs.gather.Goals.{then-room-more, else-room-more}
 

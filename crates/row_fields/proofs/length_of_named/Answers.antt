@@ -10,9 +10,9 @@ use Rattle.model.specs.Layouts.{mapping_kind, length_of}
 use Rattle.model.specs.Mappings.{other_width}
 use Rattle.row_fields.specs.Rows.{Column, column}
 use Rattle.row_fields.specs.Masks.{frame_mask}
-use Rattle.row_fields.specs.Laws.Rows.{rest_good, bad_kind, good_by_ranges, length_good, length_bad}
+use Rattle.row_fields.proofs.Laws.Rows.{rest_good, bad_kind, good_by_ranges, length_good, length_bad}
 use Rattle.laws.specs.Layouts.{mapping_kind_ge, mapping_kind_le}
-use Rattle.row_fields.specs.Laws.Masks.{masks_of_row, far_span}
+use Rattle.row_fields.proofs.Laws.Masks.{masks_of_row, far_span}
 use Rattle.row_fields.proofs.length_of_named.Goals as goal
 use Rattle.row_fields.proofs.length_of_named.Goals.{After-is_mapping_at, After-number1-kind, After-number1-span, After-number8-4, Else-not-is_mapping_at}
 

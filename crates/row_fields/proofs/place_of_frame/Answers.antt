@@ -1,6 +1,6 @@
 use mathlib.Core.Path.{sym, ◌∙◌}
 use native.Mathlib.Omega.{arith}
-use Rattle.row_fields.specs.Laws.Overlaps.{frame_place, within}
+use Rattle.row_fields.proofs.Laws.Overlaps.{frame_place, within}
 use Rattle.row_fields.proofs.place_of_frame.Goals as goal
 
 pub overflow_add-result : goal.overflow_add-result

@@ -1,6 +1,6 @@
 -- Each number is put over what is too much of the ones before it.
 use native.Mathlib.Omega.{arith}
-use Rattle.row_fields.specs.Laws.Overlaps.{Within, within, overlapped}
+use Rattle.row_fields.proofs.Laws.Overlaps.{Within, within, overlapped}
 use Rattle.row_fields.proofs.put_mapping.Goals as goal
 use Rattle.row_fields.proofs.put_mapping.Goals.{After-place_of_frame-frame}
 

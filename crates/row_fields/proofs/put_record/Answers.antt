@@ -1,5 +1,5 @@
 use Rattle.row_fields.specs.Rows.{named}
-use Rattle.row_fields.specs.Laws.Overlaps.{small_of_fits}
+use Rattle.row_fields.proofs.Laws.Overlaps.{small_of_fits}
 use Rattle.row_fields.proofs.put_record.Goals as goal
 
 pub put_mapping-requires : goal.put_mapping-requires

@@ -2,7 +2,7 @@
 use Prim.Native.Nat.{◌≤◌}
 use native.Mathlib.Omega.{arith}
 use lib.ListN.{length}
-use Rattle.row_fields.specs.Laws.Writing.{wrote_number, wrote_two, wrote_behind, row_pieces}
+use Rattle.row_fields.proofs.Laws.Writing.{wrote_number, wrote_two, wrote_behind, row_pieces}
 use Rattle.row_fields.proofs.put_row.Goals as goal
 
 pub returns : goal.returns

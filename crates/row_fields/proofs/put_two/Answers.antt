@@ -1,6 +1,6 @@
 -- The second number behind the first.
 use native.Mathlib.Omega.{arith}
-use Rattle.row_fields.specs.Laws.Writing.{wrote_number, wrote_behind}
+use Rattle.row_fields.proofs.Laws.Writing.{wrote_number, wrote_behind}
 use Rattle.row_fields.proofs.put_two.Goals as goal
 
 pub returns : goal.returns

@@ -1,5 +1,5 @@
 -- The EP4TA by its function.
-use Rattle.scopes.specs.Laws.Queries.{meets_invept}
+use Rattle.scopes.proofs.Laws.Queries.{meets_invept}
 use Rattle.scopes.proofs.invept_query.Goals as goal
 
 pub returns : goal.returns

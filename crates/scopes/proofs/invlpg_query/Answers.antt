@@ -1,5 +1,5 @@
 -- The current VPID and the page by their functions.
-use Rattle.scopes.specs.Laws.Queries.{meets_invlpg}
+use Rattle.scopes.proofs.Laws.Queries.{meets_invlpg}
 use Rattle.scopes.proofs.invlpg_query.Goals as goal
 
 pub returns : goal.returns

@@ -1,5 +1,5 @@
 -- The current VPID, the PCIDs and the page by their functions.
-use Rattle.scopes.specs.Laws.Queries.{meets_invpcid}
+use Rattle.scopes.proofs.Laws.Queries.{meets_invpcid}
 use Rattle.scopes.proofs.invpcid_query.Goals as goal
 
 pub returns : goal.returns

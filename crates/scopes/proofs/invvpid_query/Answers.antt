@@ -1,5 +1,5 @@
 -- The VPIDs and the page by their functions.
-use Rattle.scopes.specs.Laws.Queries.{meets_invvpid}
+use Rattle.scopes.proofs.Laws.Queries.{meets_invvpid}
 use Rattle.scopes.proofs.invvpid_query.Goals as goal
 
 pub returns : goal.returns

@@ -1,5 +1,5 @@
 -- The current VPID by its function.
-use Rattle.scopes.specs.Laws.Queries.{meets_mov_to_cr3}
+use Rattle.scopes.proofs.Laws.Queries.{meets_mov_to_cr3}
 use Rattle.scopes.proofs.mov_to_cr3_query.Goals as goal
 
 pub returns : goal.returns

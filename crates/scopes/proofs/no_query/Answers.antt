@@ -1,5 +1,5 @@
 -- Every record passes.
-use Rattle.scopes.specs.Laws.Queries.{meets_nothing}
+use Rattle.scopes.proofs.Laws.Queries.{meets_nothing}
 use Rattle.scopes.proofs.no_query.Goals as goal
 
 pub returns : goal.returns

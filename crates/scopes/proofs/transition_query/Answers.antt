@@ -1,5 +1,5 @@
 -- VPID 0.
-use Rattle.scopes.specs.Laws.Queries.{meets_transition}
+use Rattle.scopes.proofs.Laws.Queries.{meets_transition}
 use Rattle.scopes.proofs.transition_query.Goals as goal
 
 pub returns : goal.returns

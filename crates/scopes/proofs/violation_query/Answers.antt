@@ -1,5 +1,5 @@
 -- The kinds, the tags and the two pages by their functions.
-use Rattle.scopes.specs.Laws.Queries.{meets_violation}
+use Rattle.scopes.proofs.Laws.Queries.{meets_violation}
 use Rattle.scopes.proofs.violation_query.Goals as goal
 
 pub returns : goal.returns

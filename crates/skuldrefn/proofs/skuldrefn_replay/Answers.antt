@@ -1,6 +1,6 @@
 -- The replay's own result, written out as numbers.
 use Rattle.skuldrefn.specs.Flat.{flat_replayed}
-use Rattle.skuldrefn.specs.Laws.{flat_replays}
+use Rattle.skuldrefn.proofs.Laws.{flat_replays}
 use Rattle.skuldrefn.proofs.skuldrefn_replay.Goals as goal
 
 pub returns : goal.returns

@@ -1,5 +1,5 @@
 -- Both branches are the same law, at the buffer that holds the table.
-use Rattle.states.specs.Laws.States.{holds_first, holds_second, applies_first, applies_second}
+use Rattle.states.proofs.Laws.States.{holds_first, holds_second, applies_first, applies_second}
 use Rattle.states.proofs.apply.Goals as goal
 
 pub apply_to-requires : goal.apply_to-requires

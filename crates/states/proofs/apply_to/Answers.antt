@@ -13,9 +13,9 @@ use Rattle.model.specs.Answers.{first, table_grounds, valid_here, answer, create
 use Rattle.laws.specs.Answers.{answer_of_table, answer_of_invalid, accepted_parts, table_grounds_out_of_range}
 use Rattle.laws.specs.Events.{valid_event_read, valid_event_invalid}
 use Rattle.runs.specs.InPlace.{stays}
-use Rattle.runs.specs.Laws.InPlace.{stays_parts}
+use Rattle.runs.proofs.Laws.InPlace.{stays_parts}
 use Rattle.states.specs.States.{run_on}
-use Rattle.states.specs.Laws.States.{length_table, few_records, holds_judged, applies_refused, applies_extended, applies_exchanged}
+use Rattle.states.proofs.Laws.States.{length_table, few_records, holds_judged, applies_refused, applies_extended, applies_exchanged}
 use Rattle.std.proofs.Common.{ap}
 use Rattle.states.proofs.apply_to.Goals as goal
 use Rattle.states.proofs.apply_to.Goals.{After-has_scope, Else-ground-ne0, In-Read}

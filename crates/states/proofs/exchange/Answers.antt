@@ -6,7 +6,7 @@ use lib.ListN.{take}
 use Rattle.model.specs.Steps.{dropped_count}
 use Rattle.laws.specs.Steps.{length_creation}
 use Rattle.states.specs.Outcomes.{exchanged}
-use Rattle.states.specs.Laws.States.{length_table, few_records, dropped_few, holds_judged}
+use Rattle.states.proofs.Laws.States.{length_table, few_records, dropped_few, holds_judged}
 use Rattle.states.proofs.exchange.Goals as goal
 use Rattle.states.proofs.exchange.Goals.{After-perform-performed}
 

@@ -9,8 +9,8 @@ use Rattle.model.specs.Steps.{new_table}
 use Rattle.laws.specs.Buffers.{put_put_front}
 use Rattle.laws.specs.Steps.{judged_whole, judged_short}
 use Rattle.filters.specs.Filters.{filtered}
-use Rattle.filters.specs.Laws.Filters.{length_filtered, new_table_filtered, dropped_count_scoped}
-use Rattle.creations.specs.Laws.Counts.{kept, creation_countable, tallied_new_table}
+use Rattle.filters.proofs.Laws.Filters.{length_filtered, new_table_filtered, dropped_count_scoped}
+use Rattle.creations.proofs.Laws.Counts.{kept, creation_countable, tallied_new_table}
 use Rattle.steps.proofs.perform.Goals as goal
 use Rattle.steps.proofs.perform.Goals.{After-add_creation-length}
 

@@ -6,7 +6,7 @@ use Rattle.model.specs.Answers.{first, table_grounds}
 use Rattle.laws.specs.Answers.{answer_of_table, table_grounds_out_of_range, table_grounds_in_range}
 use Rattle.laws.specs.Rules.{rule_below_8, table_answer_below_8}
 use Rattle.laws.specs.Steps.{step_refused}
-use Rattle.tables.specs.Laws.Judged.{judged_records_whole}
+use Rattle.tables.proofs.Laws.Judged.{judged_records_whole}
 use Rattle.std.proofs.Common.{ap}
 use Rattle.std.proofs.Common.{not}
 use Rattle.steps.proofs.step.Goals as goal

@@ -5,7 +5,7 @@ use native.Mathlib.Omega.{arith}
 use Rattle.laws.specs.Answers.{answer_of_invalid, accepted_parts}
 use Rattle.laws.specs.Events.{valid_event_read, valid_event_invalid}
 use Rattle.laws.specs.Steps.{step_refused, step_accepted}
-use Rattle.steps.specs.Laws.Acceptances.{acceptance_accepted}
+use Rattle.steps.proofs.Laws.Acceptances.{acceptance_accepted}
 use Rattle.steps.proofs.step_judged.Goals as goal
 
 pub returns-in_default : goal.returns-in_default

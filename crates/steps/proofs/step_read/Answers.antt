@@ -2,8 +2,8 @@
 use mathlib.Core.Path.{refl, sym, ◌∙◌}
 use Rattle.laws.specs.Answers.{accepted_parts}
 use Rattle.laws.specs.Steps.{step_refused, step_accepted}
-use Rattle.steps.specs.Laws.Counts.{records_after_accepted, records_after_refused}
-use Rattle.steps.specs.Laws.Acceptances.{acceptance_accepted}
+use Rattle.steps.proofs.Laws.Counts.{records_after_accepted, records_after_refused}
+use Rattle.steps.proofs.Laws.Acceptances.{acceptance_accepted}
 use Rattle.steps.proofs.step_read.Goals as goal
 
 pub returns-then-ground-ne0 : goal.returns-then-ground-ne0

@@ -1,7 +1,7 @@
 -- The walk strikes the records of the table off counts of 0, and what was struck off is written.
 use mathlib.Core.Path.{sym, refl, ◌∙◌}
-use Rattle.tallies.specs.Laws.Struck.{struck_nil, no_pcid_counts}
-use Rattle.tables.specs.Laws.Counts.{table_counts_refused, table_counts_short, table_counts_accepted}
+use Rattle.tallies.proofs.Laws.Struck.{struck_nil, no_pcid_counts}
+use Rattle.tables.proofs.Laws.Counts.{table_counts_refused, table_counts_short, table_counts_accepted}
 use Rattle.tables.proofs.count.Goals as goal
 
 pub judge_with-judged-requires : goal.judge_with-judged-requires

@@ -1,7 +1,7 @@
 -- A valid table of one record.
 use mathlib.Core.Path.{sym, ◌∙◌}
 use Rattle.laws.specs.Reasons.{one_record_judged}
-use Rattle.tables.specs.Laws.Judged.{judged_records_whole}
+use Rattle.tables.proofs.Laws.Judged.{judged_records_whole}
 use Rattle.tables.proofs.is_one_record.Goals as goal
 
 pub returns : goal.returns

@@ -1,7 +1,7 @@
 -- The walk strikes the records of the table off the tally's counts, and what is left decides.
 use mathlib.Core.Path.{sym, refl, ◌∙◌}
-use Rattle.tallies.specs.Laws.Struck.{struck_nil}
-use Rattle.tables.specs.Laws.Counts.{counted_judged_refused, counted_judged_accepted}
+use Rattle.tallies.proofs.Laws.Struck.{struck_nil}
+use Rattle.tables.proofs.Laws.Counts.{counted_judged_refused, counted_judged_accepted}
 use Rattle.tables.proofs.judge_beside.Goals as goal
 
 pub judge_with-judged-requires : goal.judge_with-judged-requires

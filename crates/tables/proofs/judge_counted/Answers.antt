@@ -1,6 +1,6 @@
 -- The records are struck off a copy of the tally's 4,096 counts; off counts of 0 where they are not so many.
-use Rattle.tallies.specs.Laws.Struck.{no_pcid_counts}
-use Rattle.tables.specs.Laws.Counts.{counted_judged_short}
+use Rattle.tallies.proofs.Laws.Struck.{no_pcid_counts}
+use Rattle.tables.proofs.Laws.Counts.{counted_judged_short}
 use Rattle.tables.proofs.judge_counted.Goals as goal
 
 pub judge_beside-requires : goal.judge_beside-requires

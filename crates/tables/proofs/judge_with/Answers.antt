@@ -4,7 +4,7 @@ use mathlib.Core.Path.{sym, ◌∙◌}
 use native.Mathlib.Omega.{arith}
 use borrow.Author.Tests.{lt-ltb, le-ltb, ne_eqb, eq-eqb}
 use Rattle.model.specs.Answers.{first}
-use Rattle.tables.specs.Laws.Judged.{judged_refused, judged_accepted}
+use Rattle.tables.proofs.Laws.Judged.{judged_refused, judged_accepted}
 use Rattle.tables.proofs.judge_with.Goals as goal
 
 pub returns-then-table-gt-TABLE_LIMIT : goal.returns-then-table-gt-TABLE_LIMIT

@@ -4,8 +4,8 @@ use Prim.Native.Nat.{◌-◌}
 use mathlib.Core.Path.{refl, ◌∙◌}
 use native.Mathlib.Omega.{arith}
 use Rattle.laws.specs.Tables.{rest_of_drop}
-use Rattle.tables.specs.Laws.Walk.{walk_start, walk_read, walk_on, walk_stop, walk_end}
-use Rattle.tables.specs.Laws.Counting.{counting_start, counting_ready, counting_end, stopped_invalid, walked_counted, walked_uncounted}
+use Rattle.tables.proofs.Laws.Walk.{walk_start, walk_read, walk_on, walk_stop, walk_end}
+use Rattle.tables.proofs.Laws.Counting.{counting_start, counting_ready, counting_end, stopped_invalid, walked_counted, walked_uncounted}
 use Rattle.tables.proofs.walk.Goals as goal
 use Rattle.tables.proofs.walk.Goals.{else-counting, then-counting}
 

@@ -1,6 +1,6 @@
 use Prim.Native.Nat.{◌-◌}
 use lib.ListN.{length}
-use Rattle.tables.specs.Laws.Counting.{WalkedCounting}
+use Rattle.tables.proofs.Laws.Counting.{WalkedCounting}
 use Rattle.tables.proofs.walk.Given as goal
 
 abbrev pub invariant-loop-at : goal.invariant-loop-at

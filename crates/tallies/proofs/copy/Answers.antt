@@ -1,6 +1,6 @@
 -- The counts up to the position are copied. The measure is what is left.
 use Rattle.std.proofs.Common.{arith, length-set}
-use Rattle.tallies.specs.Laws.Lists.{copied_start, copied_next, copied_end}
+use Rattle.tallies.proofs.Laws.Lists.{copied_start, copied_next, copied_end}
 use Rattle.tallies.proofs.copy.Goals as goal
 
 pub loop-at-init : goal.loop-at-init

@@ -1,5 +1,5 @@
 use Rattle.std.proofs.Common.{◌-◌, length}
-use Rattle.tallies.specs.Laws.Lists.{Copied}
+use Rattle.tallies.proofs.Laws.Lists.{Copied}
 use Rattle.tallies.proofs.copy.Given as goal
 
 abbrev pub invariant-loop-at : goal.invariant-loop-at

@@ -2,7 +2,7 @@
 use Rattle.std.proofs.Common.{◌*◌, refl, arith}
 use Rattle.model.specs.Mappings.{linear, guest_physical, structure_cache}
 use Rattle.laws.specs.Layouts.{mapping_kind_le}
-use Rattle.kinds.specs.Laws.Places.{numbers_of_mappings}
+use Rattle.kinds.proofs.Laws.Places.{numbers_of_mappings}
 use Rattle.tallies.specs.Tallies.{row_of}
 use Rattle.tallies.proofs.first_cell.Goals as goal
 

@@ -2,7 +2,7 @@
 use Rattle.std.proofs.Common.{ap, ◌∙◌, arith}
 use Rattle.model.specs.Mappings.{mapping}
 use Rattle.tallies.specs.Tallies.{cells_with, by_pcid, PcidCounts}
-use Rattle.tallies.specs.Laws.Struck.{struck_by_bytes}
+use Rattle.tallies.proofs.Laws.Struck.{struck_by_bytes}
 use Rattle.tallies.proofs.strike.Goals as goal
 use Rattle.tallies.proofs.strike.Goals.{After-raise}
 

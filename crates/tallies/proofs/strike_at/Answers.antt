@@ -1,7 +1,7 @@
 -- The count is the one that wraps back, and the list is the one with that count.
 use Rattle.std.proofs.Common.{get_or, set, ap}
 use Rattle.tallies.specs.Tallies.{struck_by}
-use Rattle.tallies.specs.Laws.Struck.{wrapped_less_made}
+use Rattle.tallies.proofs.Laws.Struck.{wrapped_less_made}
 use Rattle.tallies.proofs.strike_at.Goals as goal
 
 pub returns : goal.returns

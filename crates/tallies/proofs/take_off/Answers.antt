@@ -2,7 +2,7 @@
 use Rattle.std.proofs.Common.{ap, ◌∙◌, arith}
 use Rattle.model.specs.Mappings.{mapping}
 use Rattle.tallies.specs.Tallies.{cells_without, by_pcid}
-use Rattle.tallies.specs.Laws.Tallied.{pcids_without_by}
+use Rattle.tallies.proofs.Laws.Tallied.{pcids_without_by}
 use Rattle.tallies.proofs.take_off.Goals as goal
 
 pub times_by_pcid-times-requires : goal.times_by_pcid-times-requires

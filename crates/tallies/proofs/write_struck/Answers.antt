@@ -1,7 +1,7 @@
 -- The numbers up to the position are written. The measure is what is left.
 use Rattle.std.proofs.Common.{sym, ◌∙◌, arith}
-use Rattle.tallies.specs.Laws.Lists.{copied_start, copied_next, copied_end}
-use Rattle.tallies.specs.Laws.Struck.{length_struck_off, struck_off_made}
+use Rattle.tallies.proofs.Laws.Lists.{copied_start, copied_next, copied_end}
+use Rattle.tallies.proofs.Laws.Struck.{length_struck_off, struck_off_made}
 use Rattle.tallies.proofs.write_struck.Goals as goal
 
 pub loop-at-init : goal.loop-at-init

@@ -1,6 +1,6 @@
 use Rattle.std.proofs.Common.{◌-◌, length}
 use Rattle.tallies.specs.Tallies.{struck_off}
-use Rattle.tallies.specs.Laws.Lists.{Copied}
+use Rattle.tallies.proofs.Laws.Lists.{Copied}
 use Rattle.tallies.proofs.write_struck.Given as goal
 
 abbrev pub invariant-loop-at : goal.invariant-loop-at

@@ -1,6 +1,6 @@
 -- The counts before the position are looked at. The measure is what is left of the length.
 use native.Mathlib.Omega.{arith}
-use Rattle.tally_rows.specs.Laws.Left.{looked_start, looked_next, looked_end}
+use Rattle.tally_rows.proofs.Laws.Left.{looked_start, looked_next, looked_end}
 use Rattle.tally_rows.proofs.is_none_left.Goals as goal
 
 pub loop-at-init : goal.loop-at-init

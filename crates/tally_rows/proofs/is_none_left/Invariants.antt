@@ -1,6 +1,6 @@
 use Prim.Native.Nat.{◌-◌}
 use lib.ListN.{length}
-use Rattle.tally_rows.specs.Laws.Left.{Looked}
+use Rattle.tally_rows.proofs.Laws.Left.{Looked}
 use Rattle.tally_rows.proofs.is_none_left.Given as goal
 
 abbrev pub invariant-loop-at : goal.invariant-loop-at

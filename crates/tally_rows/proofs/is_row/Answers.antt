@@ -6,7 +6,7 @@ use borrow.Author.Rules.{rules}
 use lib.ListN.{length}
 use Rattle.tallies.specs.Tallies.{tabulate}
 use Rattle.tally_rows.specs.Rows.{row_from}
-use Rattle.tally_rows.specs.Laws.Rows.{same_five}
+use Rattle.tally_rows.proofs.Laws.Rows.{same_five}
 use Rattle.tally_rows.proofs.is_row.Goals as goal
 
 pub returns : goal.returns

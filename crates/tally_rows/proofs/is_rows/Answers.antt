@@ -4,7 +4,7 @@ use borrow.Author.Rules.{rules}
 use lib.ListN.{length}
 use Rattle.tallies.specs.Tallies.{tabulate}
 use Rattle.tally_rows.specs.Rows.{rows_of}
-use Rattle.tally_rows.specs.Laws.Rows.{same_six}
+use Rattle.tally_rows.proofs.Laws.Rows.{same_six}
 use Rattle.tally_rows.proofs.is_rows.Goals as goal
 
 pub returns : goal.returns

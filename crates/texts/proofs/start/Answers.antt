@@ -1,5 +1,5 @@
 -- The replay starts with the program's context.
-use Rattle.texts.specs.Laws.Texts.{starts}
+use Rattle.texts.proofs.Laws.Texts.{starts}
 use Rattle.texts.proofs.start.Goals as goal
 
 pub returns : goal.returns

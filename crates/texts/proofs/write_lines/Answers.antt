@@ -2,8 +2,8 @@
 use Prim.Native.Nat.{◌-◌, ◌/◌}
 use native.Mathlib.Omega.{arith}
 use lib.ListN.{length}
-use Rattle.logs.specs.Laws.Progress.{at_increases, Going, going, none_from}
-use Rattle.texts.specs.Laws.Texts.{telling_start, telling_turn, telling_end}
+use Rattle.logs.proofs.Laws.Progress.{at_increases, Going, going, none_from}
+use Rattle.texts.proofs.Laws.Texts.{telling_start, telling_turn, telling_end}
 use Rattle.texts.proofs.write_lines.Goals as goal
 use Rattle.texts.proofs.write_lines.Goals.{In-loop-q}
 

@@ -1,6 +1,6 @@
 use Prim.Native.Nat.{◌-◌}
 use lib.ListN.{length}
-use Rattle.texts.specs.Laws.Texts.{Telling}
+use Rattle.texts.proofs.Laws.Texts.{Telling}
 use Rattle.texts.proofs.write_lines.Given as goal
 
 abbrev pub invariant-loop-q : goal.invariant-loop-q

@@ -1,5 +1,5 @@
 -- A longer log, and any other.
-use Rattle.texts.specs.Laws.Texts.{lines_told, too_long_told}
+use Rattle.texts.proofs.Laws.Texts.{lines_told, too_long_told}
 use Rattle.texts.proofs.write_next.Goals as goal
 
 pub returns-then-log-gt-LOG_LIMIT : goal.returns-then-log-gt-LOG_LIMIT

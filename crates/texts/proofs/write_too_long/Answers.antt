@@ -1,5 +1,5 @@
 -- Nothing is told where all of the log was taken, and else `too long`.
-use Rattle.texts.specs.Laws.Texts.{tells_nothing, tells_too_long}
+use Rattle.texts.proofs.Laws.Texts.{tells_nothing, tells_too_long}
 use Rattle.texts.proofs.write_too_long.Goals as goal
 
 pub returns-then-size-p : goal.returns-then-size-p

@@ -7,8 +7,8 @@ use lib.Bits.{bit_and}
 use lib.Dec.{eqb}
 use Rattle.model.specs.Mappings.{mapping}
 use Rattle.laws.specs.Mappings.{held_length, span_in_range_above}
-use Rattle.valid_records.specs.Laws.Ranges.{ranges_off}
-use Rattle.valid_records.specs.Laws.Masks.{kind_of_held, masks_of_record}
+use Rattle.valid_records.proofs.Laws.Ranges.{ranges_off}
+use Rattle.valid_records.proofs.Laws.Masks.{kind_of_held, masks_of_record}
 use Rattle.valid_records.proofs.is_in_ranges.Goals as goal
 use Rattle.valid_records.proofs.is_in_ranges.Goals.{After-kind}
 

@@ -7,7 +7,7 @@ use borrow.Author.Tests.{not-true, not-false}
 use Rattle.model.specs.Layouts.{kind_of, mapping_kind, length_of}
 use Rattle.model.specs.Mappings.{Held, other_width}
 use Rattle.laws.specs.Mappings.{record_length_short, record_length_held}
-use Rattle.valid_records.specs.Laws.Lengths.{length_at_empty, length_at_own, length_at_none}
+use Rattle.valid_records.proofs.Laws.Lengths.{length_at_empty, length_at_own, length_at_none}
 use Rattle.valid_records.proofs.length_at.Goals as goal
 use Rattle.valid_records.proofs.length_at.Goals.{After-is_mapping_at, After-length_of_mapping-length, After-number1-kind, Else-not-is_mapping_at, Else-part-length}
 

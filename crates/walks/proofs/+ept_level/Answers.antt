@@ -1,7 +1,7 @@
 -- Each return is an equation of `ept_from`.
 use Rattle.std.proofs.Common.{◌+◌, ◌-◌, sym, ap, ◌∙◌}
 use Rattle.walks.specs.Walks.{memory, reached, ept_from}
-use Rattle.walks.specs.Laws.Steps.{ept_from_page, ept_from_outside, ept_from_absent, ept_from_large, ept_from_table}
+use Rattle.walks.proofs.Laws.Steps.{ept_from_page, ept_from_outside, ept_from_absent, ept_from_large, ept_from_table}
 use Rattle.walks.proofs.+ept_level.Goals as goal
 
 pub returns-then-level-eq0 : goal.returns-then-level-eq0

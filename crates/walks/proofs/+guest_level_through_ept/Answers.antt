@@ -3,8 +3,8 @@
 use Rattle.std.proofs.Common.{◌+◌, ◌-◌, sym, ap, ◌∙◌, arith}
 use Rattle.model.specs.Bits.{bits}
 use Rattle.walks.specs.Walks.{memory, final_from, guest_from}
-use Rattle.walks.specs.Laws.Steps.{large_span, through_ept_stopped, through_ept_outside, through_ept_absent, through_ept_large, through_ept_table, guest_from_page, guest_from_table}
-use Rattle.walks.specs.Laws.Bounds.{ept_walk_reached}
+use Rattle.walks.proofs.Laws.Steps.{large_span, through_ept_stopped, through_ept_outside, through_ept_absent, through_ept_large, through_ept_table, guest_from_page, guest_from_table}
+use Rattle.walks.proofs.Laws.Bounds.{ept_walk_reached}
 use Rattle.walks.proofs.+guest_level_through_ept.Goals as goal
 
 pub guest_level-returns-then-level-eq0 : goal.guest_level-returns-then-level-eq0

@@ -1,5 +1,5 @@
 -- The fields one after the other.
-use Rattle.walks.specs.Laws.Records.{combined_record_put}
+use Rattle.walks.proofs.Laws.Records.{combined_record_put}
 use Rattle.walks.proofs.combined_record.Goals as goal
 
 pub returns : goal.returns

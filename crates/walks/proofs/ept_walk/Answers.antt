@@ -1,6 +1,6 @@
 -- 2^48 or more is a ground before EPT is read.
 use mathlib.Core.Path.{◌∙◌}
-use Rattle.walks.specs.Laws.Steps.{ept_walk_below, ept_walk_high}
+use Rattle.walks.proofs.Laws.Steps.{ept_walk_below, ept_walk_high}
 use Rattle.walks.proofs.ept_walk.Goals as goal
 
 pub returns-then-address-lt-GUEST_PHYSICAL_LIMIT : goal.returns-then-address-lt-GUEST_PHYSICAL_LIMIT

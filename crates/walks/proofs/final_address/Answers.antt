@@ -2,8 +2,8 @@
 use mathlib.Core.Path.{sym, ap, ◌∙◌}
 use Rattle.walks.specs.declared.Ending.TheVariants.{Translated}
 use Rattle.walks.specs.Walks.{memory, ended, ept_walk}
-use Rattle.walks.specs.Laws.Steps.{final_from_stopped, final_from_reached}
-use Rattle.walks.specs.Laws.Bounds.{ept_walk_reached}
+use Rattle.walks.proofs.Laws.Steps.{final_from_stopped, final_from_reached}
+use Rattle.walks.proofs.Laws.Bounds.{ept_walk_reached}
 use Rattle.walks.proofs.final_address.Goals as goal
 
 pub combine-requires : goal.combine-requires

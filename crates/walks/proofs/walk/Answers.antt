@@ -2,7 +2,7 @@
 use Prim.Native.Nat.{◌≤◌}
 use mathlib.Core.Path.{sym, subst}
 use Rattle.walks.specs.Walks.{walk_of}
-use Rattle.walks.specs.Laws.Bounds.{walk_in_ends}
+use Rattle.walks.proofs.Laws.Bounds.{walk_in_ends}
 use Rattle.walks.proofs.walk.Goals as goal
 
 pub returns : goal.returns

@@ -3,7 +3,7 @@ use Prim.Native.Nat.{◌*◌}
 use mathlib.Core.Path.{sym, ap, ◌∙◌}
 use borrow.Author.Tests.{not-true, not-false}
 use Rattle.walks.specs.Walks.{memory, root_base, guest_from}
-use Rattle.walks.specs.Laws.Steps.{walk_in_out_of_range, walk_in_bad_eptp, walk_in_not_canonical, walk_in_walks}
+use Rattle.walks.proofs.Laws.Steps.{walk_in_out_of_range, walk_in_bad_eptp, walk_in_not_canonical, walk_in_walks}
 use Rattle.std.proofs.Common.{not}
 use Rattle.walks.proofs.walk_in.Goals as goal
 

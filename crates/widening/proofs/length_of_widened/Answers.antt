@@ -1,7 +1,7 @@
 use mathlib.Core.Path.{sym, ap, ◌∙◌}
 use lib.ListN.{length}
 use Rattle.model.specs.Mappings.{mapping}
-use Rattle.widening.specs.Laws.Loops.{length_rewritten, widened_other, widened_own}
+use Rattle.widening.proofs.Laws.Loops.{length_rewritten, widened_other, widened_own}
 use Rattle.widening.proofs.length_of_widened.Goals as goal
 
 pub returns-then-is_of_other_width : goal.returns-then-is_of_other_width

@@ -1,6 +1,6 @@
 use Prim.Native.Nat.{◌-◌}
 use lib.ListN.{length}
-use Rattle.widening.specs.Laws.Loops.{Adding}
+use Rattle.widening.proofs.Laws.Loops.{Adding}
 use Rattle.widening.proofs.length_widened.Given as goal
 
 abbrev pub invariant-loop-at : goal.invariant-loop-at

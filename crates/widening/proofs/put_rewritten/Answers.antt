@@ -7,7 +7,7 @@ use Rattle.model.specs.Layouts.{kind_of}
 use Rattle.model.specs.Mappings.{mapping}
 use Rattle.laws.specs.Tables.{rest_of_drop}
 use Rattle.widening.specs.Widening.{page_place}
-use Rattle.widening.specs.Laws.Loops.{page_within, page_behind_span, page_of_five, put_pieces}
+use Rattle.widening.proofs.Laws.Loops.{page_within, page_behind_span, page_of_five, put_pieces}
 use Rattle.widening.proofs.put_rewritten.Goals as goal
 use Rattle.widening.proofs.put_rewritten.Goals.{After-place_of_span-place}
 

@@ -5,7 +5,7 @@ use native.Mathlib.Omega.{arith}
 use lib.ListN.{take, drop}
 use Rattle.model.specs.Mappings.{Held}
 use Rattle.laws.specs.Tables.{rest_of_drop, Next, held_of_whole, next_of_whole, held_of_next}
-use Rattle.widening.specs.Laws.Loops.{writing_start, writing_room, writing_turn, writing_end}
+use Rattle.widening.proofs.Laws.Loops.{writing_start, writing_room, writing_turn, writing_end}
 use Rattle.widening.proofs.put_table.Goals as goal
 use Rattle.widening.proofs.put_table.Goals.{After-length_of_held}
 

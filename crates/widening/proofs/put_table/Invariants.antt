@@ -1,6 +1,6 @@
 use Prim.Native.Nat.{◌-◌}
 use lib.ListN.{length}
-use Rattle.widening.specs.Laws.Loops.{Writing}
+use Rattle.widening.proofs.Laws.Loops.{Writing}
 use Rattle.widening.proofs.put_table.Given as goal
 
 abbrev pub invariant-loop-at : goal.invariant-loop-at

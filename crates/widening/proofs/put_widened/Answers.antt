@@ -6,7 +6,7 @@ use lib.ListN.{length}
 use Rattle.model.specs.Buffers.{put}
 use Rattle.model.specs.Layouts.{kind_of}
 use Rattle.model.specs.Mappings.{mapping, other_width}
-use Rattle.widening.specs.Laws.Loops.{length_rewritten, widened_other, widened_own}
+use Rattle.widening.proofs.Laws.Loops.{length_rewritten, widened_other, widened_own}
 use Rattle.widening.proofs.put_widened.Goals as goal
 use Rattle.widening.proofs.put_widened.Goals.{After-is_of_other_width, Then-is_of_other_width}
 

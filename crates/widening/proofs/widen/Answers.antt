@@ -2,7 +2,7 @@
 use mathlib.Core.Path.{◌≡◌, refl, sym, ap, ◌∙◌}
 use Rattle.model.specs.Answers.{first, stored_grounds}
 use Rattle.laws.specs.Answers.{stored_valid, valid_table_parts}
-use Rattle.widening.specs.Laws.Answers.{widening_invalid, widening_no_room, widening_room, widening_accepted}
+use Rattle.widening.proofs.Laws.Answers.{widening_invalid, widening_no_room, widening_room, widening_accepted}
 use Rattle.widening.proofs.widen.Goals as goal
 use Rattle.widening.proofs.widen.Goals.{Else-judged-ne0}
 
