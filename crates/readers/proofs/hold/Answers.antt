@@ -1,5 +1,4 @@
 -- The fragment behind the bytes held.
-use native.Mathlib.Omega.{arith}
 use Rattle.readers.proofs.hold.Goals as goal
 
 pub returns : goal.returns

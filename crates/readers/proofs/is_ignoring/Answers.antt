@@ -2,7 +2,6 @@
 use borrow.Author.Tests.{lt-ltb, le-ltb}
 use mathlib.Core.Bool.{or-true}
 use mathlib.Core.Path.{sym, ◌∙◌}
-use native.Mathlib.Omega.{arith}
 use Rattle.readers.specs.Readers.{held_bytes, counts_as_ignoring, most_held}
 use Rattle.readers.proofs.is_ignoring.Goals as goal
 

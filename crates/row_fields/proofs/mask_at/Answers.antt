@@ -1,9 +1,7 @@
 -- Each mask of the row is computed; there is none past them.
 use Prim.Native.Nat.{ℕ}
 use mathlib.Core.Path.{◌≡◌, refl, sym, subst}
-use native.Mathlib.Omega.{arith}
 use Rattle.model.specs.Mappings.{linear, guest_physical, combined, structure_cache, wide, global_marked}
-use Rattle.valid_records.proofs.Laws.Masks.{none_of_first}
 use Rattle.row_fields.specs.Masks.{first_mask, page_mask, ep4ta_mask, first_mask_at, page_mask_at, ep4ta_mask_at}
 use Rattle.row_fields.proofs.mask_at.Goals as goal
 

@@ -1,5 +1,5 @@
 -- Unknown numbers are a context out of range, with no entry read; else the walk's own answer is written out.
-use borrow.Author.Tests.{not-true, not-false}
+use borrow.Author.Tests.{not-false}
 use mathlib.Core.Bool.{true}
 use native.Mathlib.Omega.{arith}
 use mathlib.Core.Path.{◌≡◌, sym, ◌∙◌}
@@ -27,5 +27,8 @@ known c = sym c.is_known.ensures ∙ not-false _ (ap not c.if-not-is_known.false
 pub returns : goal.returns
 unfolding flat_walk
 returns c =
-    record { value = rw (known (goal.at.returns c).Else-not-is_known, ← c.context_of.ensures, ← c.walk-walked.ensures.value)
-          (λ i. record { ending = c.values_of-2.ensures i; read = c.walk-walked.result.read; «record» = c.walk-walked.result.«record» }); read_bound = c.walk-walked.ensures.read_bound }
+    record {
+      value = rw (known (goal.at.returns c).Else-not-is_known, ← c.context_of.ensures, ← c.walk-walked.ensures.value)
+          (λ i. record { ending = c.values_of-2.ensures i; read = c.walk-walked.result.read; «record» = c.walk-walked.result.«record» });
+      read_bound = c.walk-walked.ensures.read_bound;
+    }

@@ -77,8 +77,7 @@ through_ept-overflow_add-count-in-Reached t c =
 pub through_ept-guest_level-requires : goal.through_ept-guest_level-requires
 through_ept-guest_level-requires t c =
     let a = c.args in
-    let bounds = ept_walk_reached (memory a.image.now) a.ept a.level a.at a.read c.in-Reached.physical c.requires.0 (sym c.in-Reached.ensures) in
-    (
+    let bounds = ept_walk_reached (memory a.image.now) a.ept a.level a.at a.read c.in-Reached.physical c.requires.0 (sym c.in-Reached.ensures) in (
       omega (arith, c.decreases, c.requires.1),
       (
         c.requires.0,

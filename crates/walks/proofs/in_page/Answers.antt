@@ -1,6 +1,4 @@
 -- Each span is a size of its own.
-use mathlib.Core.Path.{◌≡◌}
-use native.Mathlib.Omega.{arith}
 use Rattle.walks.proofs.in_page.Goals as goal
 
 pub returns-in-0 : goal.returns-in-0

@@ -1,5 +1,4 @@
 -- Each span is a size of its own.
-use mathlib.Core.Path.{◌≡◌}
 use native.Mathlib.Omega.{arith}
 use Rattle.walks.proofs.rounded.Goals as goal
 

@@ -1,4 +1,3 @@
-use borrow.Author.Tests.{ne_eqb}
 use Rattle.widening.proofs.widened_kind.Goals as goal
 
 pub returns-in-1 : goal.returns-in-1
