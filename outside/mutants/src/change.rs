@@ -161,7 +161,8 @@ fn number(token: &str) -> Option<u64> {
 mod tests {
     use super::*;
 
-    const TEXT: &str = "use lib.Dec.{eqb}\n-- a 5\nunfoldable pub f : ℕ → Bool\nf x =\n    eqb x.vpid 5 && true\n";
+    const TEXT: &str =
+        "use lib.Dec.{eqb}\n-- a 5\nunfoldable pub f : ℕ → Bool\nf x =\n    eqb x.vpid 5 && true\n";
 
     #[test]
     fn tokens_of_a_body_alone_change() {
