@@ -1,6 +1,6 @@
 #!/bin/sh
 # check.sh LIBDIR REPLAY: the quick checks of outside/ on LIBDIR/libskuldrefn.a,
-# which `rt staticlib skuldrefn` writes, and on the replay program; and those of
+# which `./skuldrefn library` makes, and on the replay program; and those of
 # the repository's own files. Needs cargo, rustc and cc, and no network; without
 # cargo fmt, cargo clippy or chromium these checks are left out, and a line says so;
 # where CI is true, chromium is installed by apt.

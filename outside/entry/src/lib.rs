@@ -14,22 +14,28 @@ use std::thread::sleep;
 use std::time::{Duration, Instant};
 use std::{env, io};
 
-/// The stand-in for rt. SLOW: how many seconds a proof takes; FAILS: rt fails.
+/// The stand-in for rt. SLOW: how many seconds a proof takes; FAILS: rt fails; BAD: the must-fail edits
+/// that rt ci counts as bad.
 const RT: &str = r#"#!/bin/sh
-cd "$CHECKOUT" && echo "rt $*" >>calls
+echo "rt $* in ${PWD##*/}" >>"$CHECKOUT/calls"
+crate=${PWD##*/}
 case $1 in
-check)
-    echo "rt: model proved (unchanged since it was last proved)"
+run | lib)
+    echo "library model: modules loaded=3 checked=0"
     sleep "${SLOW:-0}"
-    [ -z "${FAILS:-}" ] || { echo "rt: $2 NOT PROVED (exit 1, 3 s)"; exit 1; }
-    echo "rt: $2 proved (3 s)"
-    [ "$2" != replay ] || { mkdir -p target/bin && cp "$REPLAY" target/bin/replay; }
+    echo "crate $crate: modules loaded=3 checked=5"
+    [ -z "${FAILS:-}" ] || { echo "logic=not-proved"; exit 1; }
+    echo "logic=proved functions=7"
+    mkdir -p out
+    case $1 in
+    run) cp "$REPLAY" out/replay && ./out/replay ;;
+    lib) echo "${LIBRARY:-a library}" >out/libskuldrefn_c.a ;;
+    esac
     ;;
-staticlib) mkdir -p target/staticlib && echo "${LIBRARY:-a library}" >target/staticlib/libskuldrefn.a ;;
 ci)
-    rm -rf target
     sleep "${SLOW:-0}"
-    [ -z "${FAILS:-}" ] || { echo "11 passed, 1 failed"; exit 1; }
+    [ -z "${FAILS:-}" ] || { echo "rt: FAILED: model"; echo "11 passed, 1 failed"; exit 1; }
+    echo "rt: ok; handles allowed: none; must-fail edits: 20 refused${BAD:-}; every proof was done in this run"
     echo "12 passed, 0 failed"
     ;;
 esac
@@ -79,7 +85,14 @@ impl Checkout {
         let number = COUNT.fetch_add(1, Ordering::Relaxed);
         let folder = env::temp_dir().join(format!("skuldrefn-entry-{}-{number}", id()));
         let checkout = Checkout(folder);
-        for folder in ["bin", "crates/model/src", "outside/c", "tmp"] {
+        for folder in [
+            "bin",
+            "crates/model/src",
+            "crates/replay",
+            "crates/skuldrefn_c",
+            "outside/c",
+            "tmp",
+        ] {
             fs::create_dir_all(checkout.path(folder)).expect("a folder");
         }
         for file in ["skuldrefn", "crates.txt"] {

@@ -16,16 +16,13 @@ fn the_first_build_tells_each_crate() {
     let count = begun.and_then(|rest| rest.split_once(" crates; "));
     let count: u32 = count.expect(lines[0]).0.parse().expect("a number");
     assert!(count > 10, "{count}");
-    assert_eq!(
-        lines[1],
-        format!("skuldrefn: 2 of {count}: replay proved (3 s)")
-    );
+    assert_eq!(lines[1], format!("skuldrefn: 2 of {count}: replay proved"));
     assert_eq!(lines[2], "skuldrefn: done");
     // The next run says nothing and builds nothing, and needs no rt.
     fs::remove_file(checkout.path("bin/rt")).expect("rt");
     let run = checkout.sh("./skuldrefn replay three.log");
     assert_eq!((run.status, &run.out[..], &run.said[..]), (0, THREE, ""));
-    assert_eq!(checkout.calls(), ["rt check replay"]);
+    assert_eq!(checkout.calls(), ["rt run in replay"]);
 }
 
 #[test]
@@ -50,7 +47,7 @@ fn sources_by_content() {
     file.set_modified(time).expect("a time");
     for _ in 0..2 {
         assert_eq!(checkout.sh("./skuldrefn replay three.log").out, THREE);
-        assert_eq!(checkout.calls(), ["rt check replay"]);
+        assert_eq!(checkout.calls(), ["rt run in replay"]);
     }
     // A new source, and one that is gone.
     checkout.write("crates/model/src/more.rt", b"// More.\n");
@@ -71,15 +68,12 @@ fn a_build_that_fails() {
     for _ in 0..2 {
         let run = checkout.sh("FAILS=1 ./skuldrefn replay three.log");
         assert_eq!((run.status, &run.out[..]), (2, ""));
-        assert!(run.said.contains("rt: replay NOT PROVED (exit 1, 3 s)\n"));
+        assert!(run.said.contains("logic=not-proved\n"));
         let last = run.said.lines().last().unwrap_or_default();
         let log = last.split_whitespace().last().unwrap_or_default();
         assert!(last.contains("could not be built"), "{last}");
         let text = fs::read_to_string(log).expect("the log");
-        assert!(
-            text.ends_with("rt: replay NOT PROVED (exit 1, 3 s)\n"),
-            "{text}"
-        );
+        assert!(text.ends_with("logic=not-proved\n"), "{text}");
     }
     assert_eq!(checkout.sh("./skuldrefn replay three.log").out, THREE);
     assert_eq!(checkout.calls().len(), 3);
@@ -153,9 +147,9 @@ fn two_first_runs_at_once() {
         said,
         "skuldrefn: another run is building here; waiting for it\n"
     );
-    assert_eq!(checkout.calls(), ["rt check replay"]);
+    assert_eq!(checkout.calls(), ["rt run in replay"]);
     let log = fs::read_to_string(checkout.path("target/skuldrefn/replay.log")).expect("a log");
-    assert_eq!(log.lines().count(), 2, "{log}");
+    assert_eq!(log.lines().count(), 3, "{log}");
 }
 
 #[test]
@@ -164,7 +158,7 @@ fn many_first_runs_at_once() {
     let line = "for n in 1 2 3 4 5 6; do SLOW=0.2 ./skuldrefn replay three.log & done; wait";
     let run = checkout.sh(line);
     assert_eq!(run.out.lines().count(), 18, "{}", run.said);
-    assert_eq!(checkout.calls(), ["rt check replay"]);
+    assert_eq!(checkout.calls(), ["rt run in replay"]);
 }
 
 #[test]
@@ -270,23 +264,20 @@ fn the_library() {
         "library: {top}/target/staticlib/libskuldrefn.a\nheader: {top}/outside/c/skuldrefn.h\n"
     );
     assert_eq!((run.status, run.out), (0, due));
-    assert_eq!(
-        checkout.calls(),
-        ["rt check skuldrefn", "rt staticlib skuldrefn"]
-    );
+    assert_eq!(checkout.calls(), ["rt lib in skuldrefn_c"]);
     let run = checkout.sh("./skuldrefn library");
     assert_eq!((run.status, &run.said[..]), (0, ""));
-    assert_eq!(checkout.calls().len(), 2);
+    assert_eq!(checkout.calls().len(), 1);
     // What links it is built again where it changes.
     assert_eq!(checkout.sh("./skuldrefn fuzz 1 1").status, 0);
     assert_eq!(checkout.sh("./skuldrefn fuzz 1 1").status, 0);
-    assert_eq!(checkout.calls().len(), 3);
+    assert_eq!(checkout.calls().len(), 2);
     checkout.write("crates/model/src/lib.rt", b"// Another source.\n");
     assert_eq!(
         checkout.sh("LIBRARY=another ./skuldrefn fuzz 1 1").status,
         0
     );
-    assert_eq!(checkout.calls().len(), 6);
+    assert_eq!(checkout.calls().len(), 4);
 }
 
 #[test]
@@ -294,22 +285,35 @@ fn the_gate() {
     let checkout = Checkout::bare();
     let run = checkout.sh("./skuldrefn test");
     assert_eq!(run.status, 0, "{}", run.said);
-    let due = "12 passed, 0 failed\nskuldrefn: the checks in Rust and C\ncheck.sh 2\n12 passed, 0 failed\n";
+    let ok = "rt: ok; handles allowed: none; must-fail edits: 20 refused; every proof was done in this run\n";
+    let last = "12 passed, 0 failed\n";
+    let due = format!("{ok}{last}skuldrefn: the checks in Rust and C\ncheck.sh 2\n{last}");
     assert_eq!(run.out, due);
+    let top = checkout.path("");
+    let top = top.file_name().expect("a name").to_string_lossy();
     assert_eq!(
         checkout.calls(),
         [
-            "rt ci",
-            "rt check skuldrefn",
-            "rt staticlib skuldrefn",
-            "rt check replay"
+            format!("rt ci in {top}"),
+            "rt lib in skuldrefn_c".to_string(),
+            "rt run in replay".to_string()
         ]
     );
     let run = checkout.sh("CHECK_FAILS=1 ./skuldrefn test");
     assert_eq!(run.status, 1);
     assert_eq!(run.out.lines().last(), Some("check.sh 2"));
     let run = checkout.sh("FAILS=1 ./skuldrefn test");
-    assert_eq!((run.status, &run.out[..]), (1, "11 passed, 1 failed\n"));
+    let due = "rt: FAILED: model\n11 passed, 1 failed\n";
+    assert_eq!((run.status, &run.out[..]), (1, due));
+    // What rt ci passes with bad edits does not pass here.
+    let run = checkout.sh("BAD=', 1 of them only by a limit, 2 bad' ./skuldrefn test");
+    let due = "skuldrefn: some must-fail edits are bad\n";
+    assert_eq!((run.status, &run.said[..]), (1, due));
+    assert!(run.out.ends_with(last) && !run.out.contains("check.sh"));
+    for none in ["", ", 0 bad", ", 3 of them only by a limit"] {
+        let run = checkout.sh(&format!("BAD='{none}' ./skuldrefn test"));
+        assert_eq!((run.status, &run.said[..]), (0, ""), "{none}");
+    }
     let run = checkout.sh("./skuldrefn test > /dev/full");
     assert_eq!(run.status, 1);
     assert_eq!(checkout.processes(), [""; 0]);

@@ -34,11 +34,8 @@ fn a_file_or_standard_input() {
     let due = format!("{FIRST}4 lawful accepted 0 of 0 records\n");
     let first = checkout.sh("./skuldrefn judge a.trace");
     assert_eq!((first.status, &first.out), (0, &due), "{}", first.said);
-    assert_eq!(
-        checkout.calls()[..2],
-        ["rt check skuldrefn", "rt staticlib skuldrefn"]
-    );
-    assert!(checkout.calls()[2].ends_with(" -p judge"));
+    assert_eq!(checkout.calls()[0], "rt lib in skuldrefn_c");
+    assert!(checkout.calls()[1].ends_with(" -p judge"));
     for line in [
         "./skuldrefn judge a.trace",
         "./skuldrefn judge < a.trace",
@@ -54,7 +51,7 @@ fn a_file_or_standard_input() {
         assert_eq!(run.out, due, "{line}");
     }
     // What was built is used again.
-    assert_eq!(checkout.calls().len(), 3);
+    assert_eq!(checkout.calls().len(), 2);
 }
 
 #[test]

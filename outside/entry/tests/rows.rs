@@ -26,11 +26,8 @@ fn a_file_or_standard_input() {
     let checkout = Checkout::bare();
     let first = checkout.sh("./skuldrefn rows a.table > new");
     assert_eq!(first.status, 0, "{}", first.said);
-    assert_eq!(
-        checkout.calls()[..2],
-        ["rt check skuldrefn", "rt staticlib skuldrefn"]
-    );
-    assert!(checkout.calls()[2].ends_with(" -p rows"));
+    assert_eq!(checkout.calls()[0], "rt lib in skuldrefn_c");
+    assert!(checkout.calls()[1].ends_with(" -p rows"));
     for (command, from, due) in [("rows", "a.table", &ROW_A[..]), ("table", "a.rows", &A)] {
         fs::copy(checkout.path(from), checkout.path("-x")).expect("a copy");
         for line in [
@@ -55,7 +52,7 @@ fn a_file_or_standard_input() {
     let line = "./skuldrefn rows a.table | ./skuldrefn table | cmp - a.table";
     assert_eq!(checkout.sh(line).status, 0);
     // What was built is used again, by both.
-    assert_eq!(checkout.calls().len(), 3);
+    assert_eq!(checkout.calls().len(), 2);
 }
 
 #[test]

@@ -17,11 +17,8 @@ fn a_file_or_standard_input() {
     checkout.write("-x", &[22, 23, 25]);
     let first = checkout.sh("./skuldrefn stream three.log");
     assert_eq!((first.status, &first.out[..]), (0, THREE), "{}", first.said);
-    assert_eq!(
-        checkout.calls()[..2],
-        ["rt check skuldrefn", "rt staticlib skuldrefn"]
-    );
-    assert!(checkout.calls()[2].ends_with(" -p stream"));
+    assert_eq!(checkout.calls()[0], "rt lib in skuldrefn_c");
+    assert!(checkout.calls()[1].ends_with(" -p stream"));
     for line in [
         "./skuldrefn stream three.log",
         "./skuldrefn stream < three.log",
@@ -38,7 +35,7 @@ fn a_file_or_standard_input() {
         assert_eq!(run.out, THREE, "{line}");
     }
     // What was built is used again.
-    assert_eq!(checkout.calls().len(), 3);
+    assert_eq!(checkout.calls().len(), 2);
 }
 
 /// Each line comes before the next byte is sent, and a signal ends the run.

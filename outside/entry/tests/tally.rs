@@ -31,11 +31,8 @@ fn a_file_or_standard_input() {
            events: 3\nrefused: 0\n";
     let first = checkout.sh("./skuldrefn tally a.log");
     assert_eq!((first.status, &first.out), (0, &due), "{}", first.said);
-    assert_eq!(
-        checkout.calls()[..2],
-        ["rt check skuldrefn", "rt staticlib skuldrefn"]
-    );
-    assert!(checkout.calls()[2].ends_with(" -p tally"));
+    assert_eq!(checkout.calls()[0], "rt lib in skuldrefn_c");
+    assert!(checkout.calls()[1].ends_with(" -p tally"));
     for line in [
         "./skuldrefn tally a.log",
         "./skuldrefn tally < a.log",
@@ -51,7 +48,7 @@ fn a_file_or_standard_input() {
         assert_eq!(run.out, due, "{line}");
     }
     // What was built is used again.
-    assert_eq!(checkout.calls().len(), 3);
+    assert_eq!(checkout.calls().len(), 2);
 }
 
 #[test]

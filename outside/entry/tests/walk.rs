@@ -26,11 +26,8 @@ fn with_image() -> Checkout {
 #[test]
 fn an_image_and_its_words() {
     let checkout = with_image();
-    assert_eq!(
-        checkout.calls()[..2],
-        ["rt check skuldrefn", "rt staticlib skuldrefn"]
-    );
-    assert!(checkout.calls()[2].ends_with(" -p walk"));
+    assert_eq!(checkout.calls()[0], "rt lib in skuldrefn_c");
+    assert!(checkout.calls()[1].ends_with(" -p walk"));
     for line in [
         format!("./skuldrefn walk a.image {WORDS}"),
         format!("./skuldrefn walk -- -x {WORDS}"),
@@ -51,7 +48,7 @@ fn an_image_and_its_words() {
         );
     }
     // What was built is used again.
-    assert_eq!(checkout.calls().len(), 3);
+    assert_eq!(checkout.calls().len(), 2);
 }
 
 #[test]

@@ -22,11 +22,8 @@ fn a_file_or_standard_input() {
     let checkout = Checkout::bare();
     let first = checkout.sh("./skuldrefn widen a.table > new");
     assert_eq!(first.status, 0, "{}", first.said);
-    assert_eq!(
-        checkout.calls()[..2],
-        ["rt check skuldrefn", "rt staticlib skuldrefn"]
-    );
-    assert!(checkout.calls()[2].ends_with(" -p widen"));
+    assert_eq!(checkout.calls()[0], "rt lib in skuldrefn_c");
+    assert!(checkout.calls()[1].ends_with(" -p widen"));
     checkout.write("-x", &A);
     for line in [
         "./skuldrefn widen a.table > new",
@@ -41,7 +38,7 @@ fn a_file_or_standard_input() {
         assert_eq!(new, WIDE, "{line}");
     }
     // What was built is used again.
-    assert_eq!(checkout.calls().len(), 3);
+    assert_eq!(checkout.calls().len(), 2);
     let mut command = checkout.command("./skuldrefn widen > new");
     let run = fed(&mut command, &[]).expect("it starts");
     assert_eq!((run.status, &run.said[..]), (0, ""));

@@ -54,11 +54,8 @@ fn each_command() {
         "{}",
         first.out
     );
-    assert_eq!(
-        checkout.calls()[..2],
-        ["rt check skuldrefn", "rt staticlib skuldrefn"]
-    );
-    assert!(checkout.calls()[2].ends_with(" -p workbench"));
+    assert_eq!(checkout.calls()[0], "rt lib in skuldrefn_c");
+    assert!(checkout.calls()[1].ends_with(" -p workbench"));
     for (line, status, due) in [
         (
             "./skuldrefn show -- -x",
@@ -125,7 +122,7 @@ fn each_command() {
         assert!(run.out.ends_with(due), "{line}: {}", run.out);
     }
     // What was built is used again.
-    assert_eq!(checkout.calls().len(), 3);
+    assert_eq!(checkout.calls().len(), 2);
 }
 
 #[test]
@@ -174,8 +171,8 @@ fn a_new_help_is_built_in() {
     let checkout = Checkout::bare();
     checkout.write("a.log", &log());
     assert_eq!(checkout.sh("./skuldrefn show a.log").status, 0);
-    assert_eq!(checkout.calls().len(), 3);
+    assert_eq!(checkout.calls().len(), 2);
     checkout.write("outside/workbench/help/show.txt", b"usage: other\n");
     assert_eq!(checkout.sh("./skuldrefn show a.log").status, 0);
-    assert_eq!(checkout.calls().len(), 4);
+    assert_eq!(checkout.calls().len(), 3);
 }

@@ -34,8 +34,8 @@ const EXCHANGES: &[&[&str]] = &[
     &["Outside", "Root"],
     &["On", "Off"],
     &["linear", "combined"],
-    &["guest-physical", "combined"],
-    &["current-vpid", "current-ept"],
+    &["guest_physical", "combined"],
+    &["current_vpid", "current_ept"],
     &["WrongVpid", "WrongPcid"],
     &["NotCovering", "SparedAsGlobal"],
     &["a", "b"],
@@ -110,19 +110,18 @@ fn body(line: &str, indented: bool) -> usize {
     line.len()
 }
 
-/// The words of a line with their places: names with their dots and hyphens, numbers, and signs.
+/// The words of a line with their places: names, fields with the dot before them, numbers, and signs.
 fn tokens(line: &str) -> Vec<(usize, &str)> {
     let mut found = Vec::new();
     let mut start = None;
     for (at, c) in line.char_indices() {
-        let splits = c.is_whitespace() || "(){};,".contains(c);
-        match (splits, start) {
-            (true, Some(from)) => {
-                found.push((from, &line[from..at]));
-                start = None;
-            }
-            (false, None) => start = Some(at),
-            _ => {}
+        let splits = c.is_whitespace() || "(){};,.".contains(c);
+        if let Some(from) = start.filter(|_| splits) {
+            found.push((from, &line[from..at]));
+            start = None;
+        }
+        if !splits || c == '.' {
+            start = start.or(Some(at));
         }
     }
     if let Some(from) = start {
@@ -162,7 +161,8 @@ fn number(token: &str) -> Option<u64> {
 mod tests {
     use super::*;
 
-    const TEXT: &str = "use lib.Dec.{eqb}\n-- a 5\nunfoldable pub f : ℕ → Bool\nf x =\n    eqb (x .vpid) 5 && true\n";
+    const TEXT: &str =
+        "use lib.Dec.{eqb}\n-- a 5\nunfoldable pub f : ℕ → Bool\nf x =\n    eqb x.vpid 5 && true\n";
 
     #[test]
     fn tokens_of_a_body_alone_change() {
@@ -176,7 +176,7 @@ mod tests {
     fn a_change_moves_one_token() {
         let all = changes(TEXT);
         let number = all.iter().find(|c| c.new == "6").unwrap();
-        assert_eq!(changed(TEXT, number), TEXT.replace(") 5", ") 6"));
+        assert_eq!(changed(TEXT, number), TEXT.replace("vpid 5", "vpid 6"));
     }
 
     #[test]

@@ -30,6 +30,7 @@ impl Tree {
     pub fn copied(from: &Path, to: &Path) -> io::Result<Tree> {
         fs::create_dir_all(to.join("crates"))?;
         let listed = listed(&fs::read_to_string(from.join("crates.txt"))?);
+        let own: Vec<String> = listed.iter().map(|part| part.name.clone()).collect();
         let has_specs = |name: &str| from.join("crates").join(name).join("specs").is_dir();
         let mut parts = Vec::new();
         let mut lines = String::new();
@@ -46,7 +47,7 @@ impl Tree {
             let uses: Vec<String> = part
                 .uses
                 .into_iter()
-                .filter(|u| has_specs(u) || is_of_the_kit(u))
+                .filter(|u| has_specs(u) || !own.contains(u))
                 .collect();
             lines.push_str(&format!("{}: {}\n", part.name, uses.join(" ")));
             let source = from.join("crates").join(&part.name);
@@ -117,8 +118,8 @@ impl Tree {
 
     fn is_proved(&self, name: &str) -> io::Result<bool> {
         let status = Command::new("rt")
-            .args(["check", name])
-            .current_dir(&self.top)
+            .arg("check")
+            .current_dir(self.top.join("crates").join(name))
             .stdin(Stdio::null())
             .stdout(Stdio::null())
             .stderr(Stdio::null())
@@ -127,22 +128,18 @@ impl Tree {
     }
 }
 
-fn is_of_the_kit(name: &str) -> bool {
-    ["check", "libc", "io", "os", "bytes"].contains(&name)
-}
-
 fn is_of_definitions(file: &str) -> bool {
     file.strip_suffix(".antt")
         .is_some_and(|stem| !["Lib", "Laws", "Cards"].contains(&stem))
 }
 
-/// The crates of a crates.txt, in its order.
+/// The crates of a crates.txt, in its order. Behind a name the word staticlib may stand.
 fn listed(text: &str) -> Vec<Part> {
     text.lines()
         .map(|line| line.split('#').next().unwrap_or("").trim())
         .filter_map(|line| line.split_once(':'))
         .map(|(name, uses)| Part {
-            name: name.trim().to_string(),
+            name: name.split_whitespace().take(1).collect(),
             uses: uses.split_whitespace().map(String::from).collect(),
         })
         .collect()
@@ -179,7 +176,10 @@ fn without_functions(code: &str) -> String {
             in_function = !line.ends_with('}');
             continue;
         }
-        if !line.starts_with("ghost use ") && line != "#[no_mangle]" {
+        let is_of_function = ["ghost use ", "#[unsafe(", "#[cycle("]
+            .iter()
+            .any(|start| line.starts_with(start));
+        if !is_of_function {
             kept.push_str(line);
             kept.push('\n');
         }
@@ -193,16 +193,16 @@ mod tests {
 
     #[test]
     fn functions_go_and_types_stay() {
-        let code = "ghost use a.b;\npub struct S {\n    pub x: u64,\n}\n\n// f\npub fn f(s: S) -> u64\n    ensures { λ r. ⌜ r ≡ 1 ⌝ }\n{\n    1\n}\n\npub const N: u64 = 2;\n";
+        let code = "ghost use a.b;\n#[derive(Clone, Copy)]\npub struct S {\n    pub x: u64,\n}\n\n// f\n#[cycle(f)]\npub fn f(s: S) -> u64\n    ensures { result ≡ 1 }\n{\n    1\n}\n\npub const N: u64 = 2;\n";
         assert_eq!(
             without_functions(code),
-            "pub struct S {\n    pub x: u64,\n}\n\n// f\n\npub const N: u64 = 2;\n"
+            "#[derive(Clone, Copy)]\npub struct S {\n    pub x: u64,\n}\n\n// f\n\npub const N: u64 = 2;\n"
         );
     }
 
     #[test]
     fn crates_are_read_with_their_uses() {
-        let parts = listed("# all\nmodel:\n# laws\nlaws: model\n");
+        let parts = listed("# all\nmodel:\n# laws\nlaws staticlib: model\n");
         assert_eq!(parts.len(), 2);
         assert_eq!(
             (parts[1].name.as_str(), parts[1].uses.as_slice()),

@@ -11,7 +11,8 @@ const SOURCE: &str = "\
 pub fn first(x: u64) -> u64 {
     x + 1 + 1
 }
-pub extern \"C\" fn second() {}
+pub fn second() {}
+pub extern \"C\" fn exported() {}
 fn own() {}
 ";
 
