@@ -53,6 +53,7 @@ impl Tree {
             let source = from.join("crates").join(&part.name);
             let target = to.join("crates").join(&part.name);
             copy_all(&source.join("specs"), &target.join("specs"))?;
+            copy_laws(&source.join("proofs"), &target.join("proofs"))?;
             fs::create_dir_all(target.join("src"))?;
             let code = fs::read_to_string(source.join("src/lib.rt"))?;
             fs::write(target.join("src/lib.rt"), without_functions(&code))?;
@@ -143,6 +144,24 @@ fn listed(text: &str) -> Vec<Part> {
             uses: uses.split_whitespace().map(String::from).collect(),
         })
         .collect()
+}
+
+/// Copies the laws and cards of a folder of proofs, and no function's proof.
+fn copy_laws(from: &Path, to: &Path) -> io::Result<()> {
+    if !from.is_dir() {
+        return Ok(());
+    }
+    fs::create_dir_all(to)?;
+    for entry in fs::read_dir(from)? {
+        let entry = entry?;
+        let target = to.join(entry.file_name());
+        if entry.file_name() == "Laws" {
+            copy_all(&entry.path(), &target)?;
+        } else if entry.file_type()?.is_file() {
+            fs::copy(entry.path(), target)?;
+        }
+    }
+    Ok(())
 }
 
 fn copy_all(from: &Path, to: &Path) -> io::Result<()> {
