@@ -1,13 +1,13 @@
 #!/usr/bin/env python3
 """Turns each proofs/F/Proof.antt of a crate, the old form, into Answers.antt and Invariants.antt, the present form.
 
-usage: answers.py [--names NAMES.JSON] [--keep] [--prune] CRATE..
+usage: answers.py [--names NAMES.JSON] [--keep] CRATE..
 
 Run it at the top of the repository, once the crates below CRATE prove and the crate's own source compiles: it asks
 `rt check --generated DIR --old-names` for the old and new names of goals, steps and places (or takes them from --names),
 answers each goal whose old answer was more than `search rules`, and deletes Proof.antt (--keep: leaves it as Proof.old).
-What it could not turn stays as it was, after a line `-- look: ..`. With --prune it then checks the crate, and drops each
-function's answers where the check finds the whole proof alone. Python 3.8 or later.
+What it could not turn stays as it was, after a line `-- look: ..` that it also prints. A file with no `tie.spec`, as a
+recursive function's in +f, it leaves. Python 3.8 or later.
 """
 
 import json
@@ -810,15 +810,13 @@ def names_of(folder):
 
 def main():
     args = sys.argv[1:]
-    names, keep, prune, crates = None, False, False, []
+    names, keep, crates = None, False, []
     while args:
         it = args.pop(0)
         if it == "--names":
             names = args.pop(0)
         elif it == "--keep":
             keep = True
-        elif it == "--prune":
-            prune = True
         elif it.startswith("-"):
             sys.exit(__doc__)
         else:
