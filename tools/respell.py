@@ -106,7 +106,7 @@ def respell(text, new, allowed=None):
 def main(argv):
     if argv == ["--pages"]:
         table = dict(line.rstrip("\n").split("\t") for line in open("tools/respelled.tsv", encoding="utf-8"))
-        for path in files("README.md", "CHANGES.md", "docs/**/*.md", "examples/**/*.md"):
+        for path in files("README.md", "docs/**/*.md"):
             text = read(path)
             turned = re.sub(r"`([^`\n]+)`", lambda m: "`" + respell(m.group(1), table) + "`", text)
             if turned != text:

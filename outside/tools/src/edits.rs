@@ -1,6 +1,5 @@
 //! The must-fail edits, before the prover tries them: each text to replace stands exactly once in
-//! its file, and every public function is named by two edits of its crate or more. An export to C is
-//! not counted: it is one call of a public function, with that one's clauses.
+//! its file, and every public function is named by two edits of its crate or more.
 //!
 //! The first line of an edit is `# `, the public functions whose results it changes or the
 //! definitions that it changes, `: `, and what it does wrong. A `file:` line holds for the `old:`
@@ -97,13 +96,15 @@ fn fit(top: &Path, folder: &str, edit: &str) -> Vec<String> {
     amiss
 }
 
-/// The names of a source's public functions, but for its exports to C.
+/// The names of a source's public functions.
 fn public_functions(source: &str) -> Vec<&str> {
     source.lines().filter_map(public_function).collect()
 }
 
 fn public_function(line: &str) -> Option<&str> {
-    let rest = line.strip_prefix("pub fn ")?;
+    let rest = line.strip_prefix("pub ")?;
+    let rest = rest.strip_prefix("extern \"C\" ").unwrap_or(rest);
+    let rest = rest.strip_prefix("fn ")?;
     let end = rest.find(|letter: char| letter != '_' && !letter.is_alphanumeric());
     Some(&rest[..end.unwrap_or(rest.len())])
 }

@@ -11,8 +11,7 @@ const SOURCE: &str = "\
 pub fn first(x: u64) -> u64 {
     x + 1 + 1
 }
-pub fn second() {}
-pub extern \"C\" fn exported() {}
+pub extern \"C\" fn second() {}
 fn own() {}
 ";
 
