@@ -6,7 +6,8 @@ ghost use Rattle.std.specs.Io.{ReadsAtMost};
 ghost use Rattle.lines.specs.Text.{line_limit};
 
 use std::io;
-use std::io::Read;
+use std::io::{ErrorKind, Read};
+use std::process::ExitCode;
 
 // Reads to the front of the buffer, until the input ends or the buffer is full.
 fn read_log(input: &mut impl Read, log: &mut [u8]) -> io::Result<usize>
@@ -23,14 +24,14 @@ fn read_log(input: &mut impl Read, log: &mut [u8]) -> io::Result<usize>
     Ok(size)
 }
 
-// Writes the text of a log piece by piece, until a piece is empty. It ends where a write fails, and says so.
+// Writes the text of a log piece by piece, until a piece is empty or a write fails.
 fn write_text(
-    rt: &(impl Print + Eprint),
+    rt: &impl Print,
     log: &[u8],
     first: &mut [u8],
     second: &mut [u8],
     text: &mut [u8],
-)
+) -> io::Result<()>
     requires { line_limit ≤ length text.old }
 {
     let mut progress = texts::start();
@@ -38,12 +39,9 @@ fn write_text(
         let piece = texts::write_next(progress, log, first, second, text);
         let size = piece.length;
         if size == 0 {
-            return;
+            return Ok(());
         }
-        if rt.write_all(&text[..size]).is_err() {
-            let _ = eprintln!(rt; "replay: standard output cannot be written");
-            return;
-        }
+        rt.write_all(&text[..size])?;
         progress = piece.progress;
     }
 }
@@ -100,25 +98,34 @@ fn say_unreplayed(rt: &impl Eprint, log: &[u8]) {
 // A buffer for 390 lines.
 const TEXT_ROOM: usize = 32760;
 
-// Two buffers for tables, and one for the text.
-fn replay(rt: &(impl Print + Eprint), log: &[u8]) {
+// The status where nobody reads the text any more: what a shell reports of a program that SIGPIPE ended. Nothing is said then.
+const CUT_OFF: u8 = 141;
+
+// Two buffers for tables, and one for the text. What cannot be said on standard error is lost.
+fn replay(rt: &(impl Print + Eprint), log: &[u8]) -> ExitCode {
     let mut first = [0u8; model::TABLE_LIMIT];
     let mut second = [0u8; model::TABLE_LIMIT];
     let mut text = [0u8; TEXT_ROOM];
-    write_text(rt, log, &mut first, &mut second, &mut text);
+    if let Err(e) = write_text(rt, log, &mut first, &mut second, &mut text) {
+        if e.kind() == ErrorKind::BrokenPipe {
+            return ExitCode::from(CUT_OFF);
+        }
+        let _ = eprintln!(rt; "replay: standard output cannot be written");
+    }
     say_unreplayed(rt, log);
+    ExitCode::SUCCESS
 }
 
 // A buffer that holds one byte more than the longest log, so that a longer one is seen to be longer.
 const LOG_ROOM: usize = 65537;
 
-// What it cannot say on standard error is lost: the status is 0 all the same.
-fn main(rt: HostRuntime) {
+fn main(rt: HostRuntime) -> ExitCode {
     let mut log = [0u8; LOG_ROOM];
     match read_log(&mut rt.stdin(), &mut log) {
         Ok(size) => replay(&rt, &log[..size]),
         Err(_) => {
             let _ = eprintln!(&rt; "replay: standard input cannot be read");
+            ExitCode::SUCCESS
         }
     }
 }
