@@ -2,7 +2,8 @@
 //! no card, law or theorem refuses. It runs at the top of the repository.
 //!
 //! It works on copies below target/mutants, one for each core, that have no code, so that the proof of a
-//! function refuses nothing. A change that leaves the meaning as it was is listed in `equivalent.txt` with the reason.
+//! function refuses nothing. They go in the end, since rt ci refuses a checkout with copies in it. A change that
+//! leaves the meaning as it was is listed in `equivalent.txt` with the reason.
 
 mod change;
 mod equivalent;
@@ -22,6 +23,9 @@ use std::thread::{available_parallelism, scope};
 use std::time::{SystemTime, UNIX_EPOCH};
 use std::{env, fs};
 use tree::{Definitions, Tree};
+
+/// Where the copies stand, below the top folder.
+const COPIES: &str = "target/mutants";
 
 /// Tries without an argument.
 const DEFAULT_COUNT: u64 = 300;
@@ -51,7 +55,9 @@ fn main() -> ExitCode {
             return ExitCode::from(2);
         }
     };
-    match run(count, seed) {
+    let left = run(count, seed);
+    let left = removed().map_err(Stop::Other).and(left);
+    match left {
         Ok(0) => ExitCode::SUCCESS,
         Ok(_) => ExitCode::FAILURE,
         Err(Stop::Output(error)) => {
@@ -154,12 +160,18 @@ fn run(count: u64, seed: u64) -> Result<usize, Stop> {
     })
 }
 
+/// Removes the copies, if there are any.
+fn removed() -> io::Result<()> {
+    match fs::remove_dir_all(COPIES) {
+        Err(error) if error.kind() != io::ErrorKind::NotFound => Err(error),
+        _ => Ok(()),
+    }
+}
+
 /// A copy for each worker; the first is proved as it stands.
 fn trees(workers: usize) -> io::Result<Vec<Tree>> {
-    let top = Path::new("target/mutants");
-    if top.exists() {
-        fs::remove_dir_all(top)?;
-    }
+    removed()?;
+    let top = Path::new(COPIES);
     let copies = (1..=workers).map(|n| Tree::copied(Path::new("."), &top.join(n.to_string())));
     let trees: Vec<Tree> = copies.collect::<io::Result<_>>()?;
     match trees[0].refusing_from_the_lowest()? {

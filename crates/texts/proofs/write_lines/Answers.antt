@@ -1,5 +1,5 @@
 -- The loop keeps `Telling`; its measure is what is left of the log.
-use Prim.Native.Nat.{◌-◌, ◌/◌}
+use Prim.Native.Nat.{◌/◌}
 use native.Mathlib.Omega.{arith}
 use lib.ListN.{length}
 use Rattle.logs.proofs.Laws.Progress.{at_increases, Going, going, none_from}
