@@ -1,4 +1,4 @@
--- Document 02, Ask 8: the judge; and, apart from these definitions, the laws about them.
+-- Document 02, Ask 8: the judge. The laws about these definitions stand in proofs/.
 pub mod Claims
 pub mod Matching
 pub mod Theorem

@@ -1,2 +1,2 @@
-// No code: contradictions in a log, and what is proved of them, stand in specs/.
+// No code: contradictions in a log, and what is proved of them, stand in specs/, and the proofs in proofs/.
 #![tactic(auto)]

@@ -1,2 +1,2 @@
--- The step beside a tally; and, apart from the definitions, the laws about them and rows.
+-- The step beside a tally. The laws about these definitions, and rows, stand in proofs/.
 pub mod Steps

@@ -1,2 +1,2 @@
--- What filtering a table writes and tells; and, apart from these definitions, the laws about them.
+-- What filtering a table writes and tells. The laws about these definitions stand in proofs/.
 pub mod Filters

@@ -1,2 +1,2 @@
-// No code: moments, owners, leaks and what is proved of them stand in specs/.
+// No code: moments, owners, leaks and what is proved of them stand in specs/, and the proofs in proofs/.
 #![tactic(auto)]

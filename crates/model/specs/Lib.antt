@@ -1,5 +1,5 @@
--- Document 01, in its order, up to the single step and lookup, document 02's reasons, and the bench cards. The
--- whole runs stand in the crate `runs`. Definitions only: the laws about them are the crate `laws`.
+-- Document 01, in its order, up to the single step and lookup, and document 02's reasons. The whole runs stand in
+-- the crate `runs`. Definitions only: the laws about them are the crate `laws`, and the bench cards stand in proofs/.
 pub mod Bits
 pub mod Buffers
 pub mod Context

@@ -1,4 +1,4 @@
--- Issue 39, part 3: where each mapping came from; what is proved of it, and, apart from these, the laws that prove it.
+-- Issue 39, part 3: where each mapping came from; what is proved of it. The laws that prove it stand in proofs/.
 pub mod Standing
 pub mod Origins
 pub mod Statements

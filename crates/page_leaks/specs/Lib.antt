@@ -1,3 +1,3 @@
--- Issue 30: the second sort of leak, another's page; what is proved of it, and, apart from these, the laws that prove it.
+-- Issue 30: the second sort of leak, another's page; what is proved of it. The laws that prove it stand in proofs/.
 pub mod PageLeaks
 pub mod Statements

@@ -1,2 +1,2 @@
--- Document 02, Ask 3: what is kept of a log between two fragments; and, apart from these definitions, the laws about them.
+-- Document 02, Ask 3: what is kept of a log between two fragments. The laws about these definitions stand in proofs/.
 pub mod Readers

@@ -1,5 +1,5 @@
--- Issue 39, part 2: the book with room for everything and the run with lent room, what is proved of them, and, apart from
--- these, the laws that prove it.
+-- Issue 39, part 2: the book with room for everything and the run with lent room, what is proved of them. The laws that
+-- prove it stand in proofs/.
 pub mod Books
 pub mod Lent
 pub mod Statements

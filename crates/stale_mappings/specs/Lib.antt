@@ -1,3 +1,3 @@
--- Issue 30: the third sort, stale mappings; what is proved of them, and, apart from these, the laws that prove it.
+-- Issue 30: the third sort, stale mappings; what is proved of them. The laws that prove it stand in proofs/.
 pub mod StaleMappings
 pub mod Statements

@@ -1,2 +1,2 @@
--- The tally of a table; and, apart from the definitions, the laws about them.
+-- The tally of a table. The laws about these definitions stand in proofs/.
 pub mod Tallies

@@ -1,2 +1,2 @@
--- The rows of a tally; and, apart from the definitions, the laws about them.
+-- The rows of a tally. The laws about these definitions stand in proofs/.
 pub mod Rows

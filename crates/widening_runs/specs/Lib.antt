@@ -1,3 +1,3 @@
--- Widening is a simulation: the claim and, apart from it, the laws that prove it and rows.
+-- Widening is a simulation: the claim. The laws that prove it, and rows, stand in proofs/.
 pub mod Simulation
 pub mod Runs

@@ -1,2 +1,2 @@
-// No code: that widening is a simulation, step by step and over whole runs, stands in specs/.
+// No code: that widening is a simulation, step by step and over whole runs, stands in specs/, and the proof in proofs/.
 #![tactic(auto)]
