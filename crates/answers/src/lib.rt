@@ -1,24 +1,22 @@
-// The answers that a context and an event alone give: 5 to 11. The lowest number that applies is given.
+// The refusals that a context and an event alone give: 5 to 11. The lowest number that applies is given.
 #![tactic(auto)]
 
 ghost use Rattle.std.specs.Prelude.{cond, [], ◌∷◌, ◌≡◌};
 ghost use Rattle.model.specs.Context.{outside};
 ghost use Rattle.model.specs.Answers.{kind_number, invalid_opcode, exits, general_protection, event_answer, among, own_rule};
+ghost use Rattle.model.specs.Refusals.{answer_of, rule_of};
 
-use model::{Context, Event, Place};
+use model::{Context, Event, Place, Refusal};
 
 // The place is outside VMX operation.
 fn is_outside(place: Place) -> bool
     ensures { result ≡ outside place }
 {
-    match place {
-        Place::Outside => true,
-        Place::Root => false,
-        Place::Guest(_) => false,
-    }
+    place == Place::Outside
 }
 
 // The kind of an event.
+// Kept: the definitions ask its number, and that of a creation may be any.
 fn kind_of_event(e: Event) -> u64
     ensures { result ≡ kind_number e }
 {
@@ -45,9 +43,8 @@ fn is_invalid_opcode(c: Context, e: Event) -> bool
 {
     let kind = kind_of_event(e);
     let capability = c.capability;
-    let place = c.place;
     let needs_vmx = (kind == 16) | ((kind == 17) | ((kind == 20) | (kind == 23)));
-    (needs_vmx & is_outside(place))
+    (needs_vmx & is_outside(c.place))
         | ((kind == 16) & !((capability >> 32) % 2 == 1))
         | ((kind == 17) & !((capability >> 20) % 2 == 1))
 }
@@ -57,9 +54,8 @@ fn is_exiting(c: Context, e: Event) -> bool
     ensures { result ≡ exits c e }
 {
     let kind = kind_of_event(e);
-    let place = c.place;
     ((kind == 16) | ((kind == 17) | ((kind == 20) | ((kind == 22) | (kind == 23)))))
-        & contexts::is_in_guest(place)
+        & contexts::is_in_guest(c.place)
 }
 
 // 7: the event is a general-protection fault here.
@@ -75,28 +71,20 @@ fn is_general_protection(c: Context, e: Event) -> bool
     privileged & (0 < c.cpl)
 }
 
-// The lowest number of 5 to 11 that applies, or 0: behind 5, 6 and 7 the event's own ground.
-pub fn answer_to_event(c: Context, e: Event) -> u64
-    ensures { result ≡ event_answer c e }
+// Refuses an event with the lowest number of 5 to 11 that applies: behind 5, 6 and 7 a ground of its own. The rule of the
+// EPTP goes with 8 and 10 alone.
+pub fn check_event(c: Context, e: Event) -> Result<(), Refusal>
+    ensures answer { answer_of result ≡ event_answer c e }
+    ensures rule { rule_of result ≡ cond (among (event_answer c e) (8 ∷ 10 ∷ [])) (own_rule c e) 0 }
 {
     if is_invalid_opcode(c, e) {
-        return 5;
+        return Err(Refusal::UndefinedOpcode);
     }
     if is_exiting(c, e) {
-        return 6;
+        return Err(Refusal::VmExit);
     }
     if is_general_protection(c, e) {
-        return 7;
+        return Err(Refusal::GeneralProtection);
     }
-    grounds::own_ground(c, e)
-}
-
-// The rule of the EPTP that goes with an answer to the event: where it is the ground of 8 or 10, else 0.
-pub fn rule_with_answer(c: Context, e: Event, answer: u64) -> u64
-    ensures { result ≡ cond (among answer (8 ∷ 10 ∷ [])) (own_rule c e) 0 }
-{
-    if (answer == 8) | (answer == 10) {
-        return grounds::own_rule(c, e);
-    }
-    0
+    grounds::check_event(c, e)
 }

@@ -1,11 +1,13 @@
 -- Document 02, Ask 8: "Given a context, an event, the table before and the claimed table after, accept exactly if the event
 -- is accepted with a new buffer of 45,056 bytes [47,104 by Ask 12], the claim is an in-order part of what our step leaves,
 -- and both are valid tables. Otherwise name the first ground".
-use Rattle.std.specs.Prelude.{ℕ, ◌+◌, Bool, cond, not, ◌||◌, List, [], ◌∷◌, eqb, ltb, length}
+use Rattle.std.specs.Prelude.{ℕ, ◌+◌, Bool, cond, not, ◌||◌, List, [], ◌∷◌, Result, Ok, Err, eqb, ltb, length}
 use Rattle.model.specs.declared.Context.{Context}
+use Rattle.model.specs.declared.Refusal.{Refusal}
 use Rattle.model.specs.Tables.{limit, records}
 use Rattle.model.specs.Answers.{answer, rule_with, valid_table}
 use Rattle.model.specs.Steps.{new_table}
+use Rattle.model.specs.Refusals.{refusal_number, refusal_rule}
 use Rattle.tally_rows.specs.Rows.{same}
 use Rattle.claims.specs.declared.Judgement.{Judgement}
 use Rattle.claims.specs.declared.Judgement.TheVariants.{Accepted, Refused, Malformed, Unmatched}
@@ -30,6 +32,11 @@ unfoldable pub judgement : Context → List ℕ → List ℕ → List ℕ → Ju
 judgement c t e claim =
     cond (not (eqb (answer c t e limit) 0)) (Refused (answer c t e limit) (rule_with c e (answer c t e limit)))
     (cond (malformed c claim) Malformed (matched 0 (records claim) (records (new_table c t e))))
+
+-- what the judge's result says: a judgement, or the event is refused
+abbrev pub judged : Result Judgement Refusal → Judgement
+judged (Ok judgement) = judgement
+judged (Err refusal) = Refused (refusal_number refusal) (refusal_rule refusal)
 
 -- the number of each case, and its values, 0 where it has none
 abbrev pub judgement_values : Judgement → Values

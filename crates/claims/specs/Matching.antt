@@ -1,6 +1,5 @@
--- What the judge's functions tell: whether some bytes start with a record, and how far the records that
--- are left match a claim.
-use Rattle.std.specs.Prelude.{ℕ, ◌≤◌, Bool, true, false, cond, ◌&&◌, List, [], ◌∷◌, ◌++◌, ◌≡◌, eqb, length, drop}
+-- What the judge's functions tell: how far the records that are left match a claim.
+use Rattle.std.specs.Prelude.{ℕ, ◌≤◌, Bool, true, cond, List, ◌++◌, ◌≡◌, eqb, length, drop}
 use Rattle.model.specs.declared.Mapping.{Mapping}
 use Rattle.model.specs.Tables.{whole, records}
 use Rattle.model.specs.Answers.{creation}
@@ -8,12 +7,6 @@ use Rattle.filters.specs.Filters.{left}
 use Rattle.claims.specs.declared.Judgement.{Judgement}
 use Rattle.claims.specs.declared.Judgement.TheVariants.{Accepted, Unmatched}
 use Rattle.claims.specs.Claims.{matched}
-
--- the bytes start with a record
-unfoldable pub starts_with : List ℕ → List ℕ → Bool
-starts_with bytes [] = true
-starts_with [] (x ∷ xs) = false
-starts_with (b ∷ bytes) (x ∷ xs) = eqb b x && starts_with bytes xs
 
 -- The claim is matched up to a position by the records of a table of which the test does not hold: with any more
 -- records behind those, the matching goes on from there with these alone.

@@ -3,9 +3,8 @@
 use Rattle.std.specs.Prelude.{ℕ, true, List, ◌≡◌}
 use Rattle.model.specs.declared.Context.{Context}
 use Rattle.model.specs.declared.Reason.TheVariants.{InScope}
-use Rattle.model.specs.declared.Explanation.TheVariants.{Accepted}
 use Rattle.model.specs.Tables.{limit, records}
-use Rattle.model.specs.Reasons.{one_record, explanation, explanation_answer}
+use Rattle.model.specs.Reasons.{one_record, Accepted, explanation, explanation_answer}
 use Rattle.tally_rows.specs.declared.KindCounts.{KindCounts}
 use Rattle.tally_rows.specs.Rows.{matching}
 use Rattle.counted_steps.specs.Steps.{counted_stepped}

@@ -22,12 +22,8 @@ fn is_place_in_range(place: Place) -> bool
     ensures { result ≡ place_in_range place }
 {
     match place {
-        Place::Outside => true,
-        Place::Root => true,
-        Place::Guest(guest) => {
-            let ept = guest.ept;
-            (guest.vpid <= model::VPID_MAX) & is_ept_in_range(ept)
-        }
+        Place::Outside | Place::Root => true,
+        Place::Guest(guest) => (guest.vpid <= model::VPID_MAX) & is_ept_in_range(guest.ept),
     }
 }
 
@@ -35,24 +31,19 @@ fn is_place_in_range(place: Place) -> bool
 pub fn is_in_range(c: Context) -> bool
     ensures { result ≡ in_range c }
 {
-    let place = c.place;
     (36 <= c.width)
         & (c.width <= 52)
         & ((c.linear_width == model::NARROW_WIDTH) | (c.linear_width == model::WIDE_WIDTH))
         & (c.pcid <= model::PCID_MAX)
         & (c.cpl <= 3)
-        & is_place_in_range(place)
+        & is_place_in_range(c.place)
 }
 
 // The place is a guest.
 pub fn is_in_guest(place: Place) -> bool
     ensures { result ≡ in_guest place }
 {
-    match place {
-        Place::Outside => false,
-        Place::Root => false,
-        Place::Guest(_) => true,
-    }
+    matches!(place, Place::Guest(_))
 }
 
 // The current VPID: the guest's, and 0 outside and in root.
@@ -60,8 +51,7 @@ pub fn vpid(place: Place) -> u64
     ensures { result ≡ current_vpid place }
 {
     match place {
-        Place::Outside => 0,
-        Place::Root => 0,
+        Place::Outside | Place::Root => 0,
         Place::Guest(guest) => guest.vpid,
     }
 }
@@ -71,8 +61,7 @@ pub fn ept(place: Place) -> Ept
     ensures { result ≡ current_ept place }
 {
     match place {
-        Place::Outside => Ept::Off,
-        Place::Root => Ept::Off,
+        Place::Outside | Place::Root => Ept::Off,
         Place::Guest(guest) => guest.ept,
     }
 }
@@ -81,8 +70,5 @@ pub fn ept(place: Place) -> Ept
 pub fn is_current_ep4ta(ept: Ept, ep4ta: u64) -> bool
     ensures { result ≡ is_current_ep4ta ept ep4ta }
 {
-    match ept {
-        Ept::Off => false,
-        Ept::On(current) => ep4ta == current,
-    }
+    ept == Ept::On(ep4ta)
 }

@@ -1,11 +1,13 @@
 -- Document 02, Ask 7: the step beside a tally.
-use Rattle.std.specs.Prelude.{ℕ, Bool, true, cond, not, List, [], ◌∷◌, ◌++◌, ◌≡◌, eqb, length}
+use Rattle.std.specs.Prelude.{ℕ, Bool, true, cond, not, List, [], ◌∷◌, ◌++◌, ◌≡◌, Result, IfOk, eqb, length}
 use Rattle.model.specs.declared.Context.{Context}
+use Rattle.model.specs.declared.Refusal.{Refusal}
 use Rattle.model.specs.Buffers.{put}
 use Rattle.model.specs.Tables.{records}
 use Rattle.model.specs.Events.{event}
 use Rattle.model.specs.Answers.{first, valid_here, table_grounds, event_grounds, no_room, rule_with}
 use Rattle.model.specs.Steps.{new_table, accepted_step, refusal, refused_step}
+use Rattle.model.specs.Refusals.{answer_of, rule_of}
 use Rattle.tallies.specs.Tallies.{Tallied, pcid_counts}
 use Rattle.tally_rows.specs.declared.KindCounts.{KindCounts}
 use Rattle.tally_rows.specs.Rows.{kind_counts, matching}
@@ -33,10 +35,10 @@ pub record Passed (c : Context) (kinds : List KindCounts) (pcids t : List ℕ) (
   pub number : r.records ≡ length (records t)
   pub tallied : Tallied (records t) r.cells pcids
 
-pub record Shows (c : Context) (kinds : List KindCounts) (pcids t e : List ℕ) (room : ℕ) (r : Shown) : Type 0 where
-  pub answer : r.answer ≡ counted_answer c kinds pcids t e room
-  pub rule : r.rule ≡ rule_with c e r.answer
-  pub passed : r.answer ≡ 0 → Passed c kinds pcids t r
+pub record Shows (c : Context) (kinds : List KindCounts) (pcids t e : List ℕ) (room : ℕ) (r : Result Shown Refusal) : Type 0 where
+  pub answer : answer_of r ≡ counted_answer c kinds pcids t e room
+  pub rule : rule_of r ≡ rule_with c e (answer_of r)
+  pub passed : IfOk r (Passed c kinds pcids t)
 
 -- "a refused step leaves the tally"
 abbrev pub counted_refusal : ℕ → ℕ → Context → List KindCounts → CountedStep

@@ -4,9 +4,10 @@
 ghost use Rattle.std.specs.Prelude.{◌≡◌, true, [], ◌∷◌, ◌++◌, length};
 ghost use Rattle.model.specs.Events.{event};
 ghost use Rattle.model.specs.Answers.{first, valid_here, table_grounds};
+ghost use Rattle.model.specs.Refusals.{refusal_number, refusal_rule};
 ghost use Rattle.counted_steps.specs.Steps.{Shows, counted_refusal, counted_stepped, counted_pcids, counted_written};
 
-use model::{Context, Event, EventReading, Step};
+use model::{Context, Event, Refusal, Step};
 use tally_rows::KindCounts;
 
 // What a step beside a tally reports, and the counts by kind and span after it.
@@ -16,26 +17,12 @@ pub struct CountedStep {
     pub kinds: [KindCounts; 6],
 }
 
-// What the old table of a step shows beside its tally: the answer to the event, with the rule of the EPTP that goes with
-// it; and where the answer is 0, how many records the table has, and their counts by kind and span.
+// What the old table of a step shows beside its tally: how many records it has, and their counts by kind and span.
+// Kept: the counts are an array of a fixed length, since the library takes no heap.
 #[derive(Clone, Copy)]
 pub struct Shown {
-    pub answer: u64,
-    pub rule: u64,
     pub records: usize,
     pub cells: [u16; 30],
-}
-
-// What is shown of a table to which a number is answered that goes with no rule.
-fn without_rule(answer: u64) -> Shown
-    ensures { (result.answer ≡ answer) × (result.rule ≡ 0) }
-{
-    Shown {
-        answer,
-        rule: 0,
-        records: 0,
-        cells: [0u16; 30],
-    }
 }
 
 // Judges a context, a table beside its tally and a valid event, with a new buffer of so many bytes: every answer but 4.
@@ -47,40 +34,34 @@ pub fn judge(
     table: &[u8],
     raw: &[u8],
     room: usize,
-) -> Shown
+) -> Result<Shown, Refusal>
     requires raw_value { valid_here c raw.now ≡ true }
     requires e_value { e ≡ event raw.now }
     ensures { Shows c kinds pcids.now table.now raw.now room result }
 {
     if !contexts::is_in_range(c) {
-        return without_rule(1);
+        return Err(Refusal::ContextOutOfRange);
     }
-    let judged = tables::judge_counted(c.linear_width, table, kinds, pcids);
-    if judged.answer != 0 {
-        return without_rule(judged.answer);
-    }
+    let judged = tables::judge_counted(c.linear_width, table, kinds, pcids)?;
     if !judged.matching {
-        return without_rule(13);
+        return Err(Refusal::WrongTally);
     }
+    steps::check_event(c, e, table, raw, room)?;
     let cells = judged.cells;
-    let ground = steps::ground_of_event(c, e, table, raw, room);
-    Shown {
-        answer: ground.answer,
-        rule: ground.rule,
+    Ok(Shown {
         records: judged.records,
         cells,
-    }
+    })
 }
 
-// The answer to an event that is not valid: 1 to 3, of the context and the table, else 4.
-pub fn answer_to_invalid(c: Context, table: &[u8]) -> u64
-    ensures { result ≡ first (table_grounds c table.now ++ ((4, true) ∷ [])) }
+// Why an event that is not valid is refused: 1 to 3, of the context and the table, else 4.
+pub fn refuse_invalid(c: Context, table: &[u8]) -> Refusal
+    ensures { refusal_number result ≡ first (table_grounds c table.now ++ ((4, true) ∷ [])) }
 {
-    let answer = tables::answer_to_table(c, table);
-    if answer != 0 {
-        return answer;
+    match tables::judge_in(c, table) {
+        Ok(_) => Refusal::EventNotValid,
+        Err(why) => why,
     }
-    4
 }
 
 // Performs an event that is accepted: writes the new table, and counts it.
@@ -95,8 +76,7 @@ pub fn perform(
     new: &mut [u8],
 ) -> CountedStep
     requires e_value { e ≡ event raw.now }
-    requires shows { Shows c kinds pcids.old table.now raw.now (length new.old) shown }
-    requires answer_value { shown.answer ≡ 0 }
+    requires shows { Shows c kinds pcids.old table.now raw.now (length new.old) (Ok shown) }
     ensures value { result ≡ counted_stepped c kinds pcids.old table.now raw.now (length new.old) }
     ensures pcids_after { pcids.new ≡ counted_pcids c kinds pcids.old table.now raw.now (length new.old) }
     ensures after { new.new ≡ counted_written c kinds pcids.old table.now raw.now new.old }
@@ -120,17 +100,11 @@ pub fn perform(
 }
 
 // What a refused step reports, with the counts as they came.
-fn refused(answer: u64, rule: u64, context: Context, kinds: [KindCounts; 6]) -> CountedStep
-    ensures { result ≡ counted_refusal answer rule context kinds }
+fn refused(why: Refusal, context: Context, kinds: [KindCounts; 6]) -> CountedStep
+    ensures { result ≡ counted_refusal (refusal_number why) (refusal_rule why) context kinds }
 {
     CountedStep {
-        step: Step {
-            answer,
-            rule,
-            context,
-            length: 0,
-            dropped: 0,
-        },
+        step: steps::refused(why, context),
         kinds,
     }
 }
@@ -150,12 +124,11 @@ pub fn counted_step(
     ensures pcids_after { pcids.new ≡ counted_pcids c kinds pcids.old table.now event.now (length new.old) }
     ensures after { new.new ≡ counted_written c kinds pcids.old table.now event.now new.old }
 {
-    let EventReading::Read(e) = events::read_event(c.linear_width, event) else {
-        return refused(answer_to_invalid(c, table), 0, c, kinds);
+    let Some(e) = events::read_event(c.linear_width, event) else {
+        return refused(refuse_invalid(c, table), c, kinds);
     };
-    let shown = judge(c, e, kinds, pcids, table, event, new.len());
-    if shown.answer != 0 {
-        return refused(shown.answer, shown.rule, c, kinds);
+    match judge(c, e, kinds, pcids, table, event, new.len()) {
+        Ok(shown) => perform(c, e, kinds, pcids, table, event, shown, new),
+        Err(why) => refused(why, c, kinds),
     }
-    perform(c, e, kinds, pcids, table, event, shown, new)
 }

@@ -8,6 +8,7 @@ ghost use Rattle.queries.specs.Queries.{query_tests};
 ghost use Rattle.tallies.specs.Tallies.{Tallied, Carries};
 ghost use Rattle.filters.specs.Filters.{left, Filters};
 
+use mappings::Record;
 use model::{Context, Event};
 use queries::Query;
 
@@ -22,7 +23,7 @@ pub struct Filtered {
 // copied whole, when a record that passes or the end of the table ends it. Where the records are counted, those that
 // pass are taken off.
 fn filter(
-    q: Query,
+    query: Query,
     table: &[u8],
     counting: bool,
     cells: &mut [u16],
@@ -32,20 +33,23 @@ fn filter(
     requires table_value { whole table.now ≡ true }
     requires table_in_bounds { length table.now ≤ length new.old }
     requires tallied { counting ≡ true → Tallied (records table.now) cells.old pcids.old }
-    ensures filters { Filters (λ m. passed (query_tests q m)) table.now new.old result new.new }
-    ensures carries { Carries counting (left (λ m. passed (query_tests q m)) table.now) cells.old pcids.old cells.new pcids.new }
+    ensures filters { Filters (λ m. passed (query_tests query m)) table.now new.old result new.new }
+    ensures carries { Carries counting (left (λ m. passed (query_tests query m)) table.now) cells.old pcids.old cells.new pcids.new }
 {
-    let kinds = queries::kinds_by_vpid(q);
+    let kinds = query.kinds_by_vpid();
     let mut at = 0;
     let mut from = 0;
     let mut to = 0;
     let mut dropped = 0;
+    // Kept: a run is cut out by its positions, which a `for` over the records would count too, and more slowly.
     while at < table.len() {
-        let part = &table[at..];
-        let end = at + mappings::length_of_held(part);
-        if queries::is_passing(q, kinds, part) {
+        let record = Record {
+            bytes: &table[at..],
+        };
+        let end = at + record.length();
+        if query.is_passing(kinds, record) {
             if counting {
-                tallies::take_off(part, cells, pcids);
+                tallies::take_off(record, cells, pcids);
             }
             to = buffers::put(&table[from..at], new, to);
             from = end;
@@ -97,8 +101,8 @@ pub fn filter_event(
             }
         }
         _ => {
-            let q = scopes::query(c, e);
-            filter(q, table, counting, cells, pcids, new)
+            let query = scopes::query(c, e);
+            filter(query, table, counting, cells, pcids, new)
         }
     }
 }

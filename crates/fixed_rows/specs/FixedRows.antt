@@ -1,6 +1,6 @@
 -- Document 02, Ask 11: "Export any valid table, one row for each record in the table's order, and import rows back in
 -- theirs." Ask 12: "Row calls are told the width; any but 48 or 57 is answer 1, before all else, with row 0."
-use Rattle.std.specs.Prelude.{ℕ, zero, suc, min, ◌+◌, ◌/◌, ◌%◌, Bool, cond, not, ◌&&◌, true, List, [], ◌∷◌, ◌++◌, map, ◌≡◌, eqb, ltb, length, take, drop}
+use Rattle.std.specs.Prelude.{ℕ, zero, suc, min, ◌+◌, ◌/◌, ◌%◌, Bool, cond, not, ◌&&◌, true, List, [], ◌∷◌, ◌++◌, map, Result, Ok, Err, ◌≡◌, eqb, ltb, length, take, drop}
 use Rattle.model.specs.Buffers.{put}
 use Rattle.model.specs.Context.{linear_width_in_range}
 use Rattle.model.specs.Layouts.{mapping_kind}
@@ -8,7 +8,16 @@ use Rattle.model.specs.Tables.{limit, joined, records}
 use Rattle.model.specs.Answers.{first, stored_grounds}
 use Rattle.laws.specs.Lists.{Every}
 use Rattle.row_fields.specs.Rows.{row_of, named, record_of, good_row, Column, column, fits}
+use Rattle.model.specs.Refusals.{refusal_number}
 use Rattle.fixed_rows.specs.declared.Converted.{Converted}
+use Rattle.fixed_rows.specs.declared.Unconverted.{Unconverted}
+use Rattle.fixed_rows.specs.declared.Unconverted.TheVariants.{Refused, BadRows}
+
+-- a length, or why nothing is converted, as it is reported
+abbrev pub converted : Result ℕ Unconverted → Converted
+converted (Ok n) = record { answer = 0; row = 0; length = n }
+converted (Err (Refused refusal)) = record { answer = refusal_number refusal; row = 0; length = 0 }
+converted (Err (BadRows row)) = record { answer = 4; row = row; length = 0 }
 
 -- ---- export
 

@@ -1,5 +1,5 @@
 -- Readers and the calls on fragments (document 02, Ask 3) as flat structs of numbers, for callers in other languages.
-use Rattle.std.specs.Prelude.{ℕ, Bool, cond, not, List, eqb, length}
+use Rattle.std.specs.Prelude.{ℕ, Bool, cond, not, List, eqb}
 use Rattle.model.specs.declared.Context.{Context}
 use Rattle.model.specs.declared.Step.{Step}
 use Rattle.readers.specs.declared.Reader.{Reader}

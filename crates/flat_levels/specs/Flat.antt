@@ -1,5 +1,5 @@
 -- The results of the step and the lookup of two levels as flat structs of numbers, for callers in other languages.
-use Rattle.std.specs.Prelude.{ℕ, cond, List, eqb, length}
+use Rattle.std.specs.Prelude.{ℕ, ◌-◌, cond, List, eqb, length}
 use Rattle.tally_rows.specs.declared.KindCounts.{KindCounts}
 use Rattle.level_lookups.specs.Levels.{lookup_levels_answer, lookup_levels_level, lookup_levels_start, lookup_levels}
 use Rattle.level_steps.specs.declared.Level.{Level}
@@ -46,6 +46,10 @@ flat_second_pcids c e h k = cond (is_known c) (pcids_of_second (unflatten c) e h
 
 unfoldable pub flat_second_written : FlatContext → List ℕ → Handed → Handed → List ℕ
 flat_second_written c e h k = cond (is_known c) (second_written (unflatten c) e h k) k.buffer
+
+-- a part of a table as numbers, from its start and end
+abbrev pub flat_part : ℕ → ℕ → ℕ → ℕ → FlatLevelPart
+flat_part answer level start end = record { answer = answer; level = level; start = start; length = end - start }
 
 -- a lookup: its answer, the level that has the part, and where it stands in that table
 unfoldable pub flat_levels_lookup : FlatContext → ℕ → List ℕ → List ℕ → FlatLevelPart

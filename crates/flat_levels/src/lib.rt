@@ -2,17 +2,20 @@
 // A place or EPT number that stands for nothing is answered 1.
 #![tactic(auto)]
 
-ghost use Rattle.std.specs.Prelude.{◌≡◌, cond, eqb};
+ghost use Rattle.std.specs.Prelude.{◌≡◌, ◌≤◌, cond, eqb};
 ghost use Rattle.flat_contexts.specs.Contexts.{flatten};
 ghost use Rattle.level_steps.specs.Levels.{handed};
-ghost use Rattle.flat_levels.specs.Flat.{flat_level, flat_levels_refusal, flat_levels_result, flat_levels_step, flat_first_pcids, flat_first_written, flat_second_pcids, flat_second_written, flat_levels_lookup};
+ghost use Rattle.flat_levels.specs.Flat.{flat_level, flat_levels_refusal, flat_levels_result, flat_levels_step, flat_first_pcids, flat_first_written, flat_second_pcids, flat_second_written, flat_part, flat_levels_lookup};
 
 use flat_contexts::FlatContext;
+use level_lookups::FoundInLevels;
 use level_steps::{Level, LevelStep};
+use lookups::Part;
 use model::Context;
 use tally_rows::KindCounts;
 
 // What a step reports of one table: its length, its dropped count, and its counts by kind and span.
+// Kept: a struct of the C interface.
 #[repr(C)]
 #[derive(Clone, Copy)]
 pub struct FlatLevel {
@@ -22,6 +25,7 @@ pub struct FlatLevel {
 }
 
 // What a step of two tables reports.
+// Kept: a struct of the C interface.
 #[repr(C)]
 #[derive(Clone, Copy)]
 pub struct FlatLevelStep {
@@ -33,6 +37,7 @@ pub struct FlatLevelStep {
 }
 
 // The part of a table that a lookup in two tables finds: which table has it, 1 or 2; 0, 0 and 0 where there is none.
+// Kept: a struct of the C interface.
 #[repr(C)]
 #[derive(Clone, Copy)]
 pub struct FlatLevelPart {
@@ -86,7 +91,7 @@ fn flat_after(context: FlatContext, answer: u64, after: Context) -> FlatContext
     if answer != 0 {
         return context;
     }
-    flat_contexts::flat_context(after)
+    FlatContext::from(after)
 }
 
 // A step's result, with the context as numbers.
@@ -107,6 +112,7 @@ fn flat_result(context: FlatContext, s: LevelStep) -> FlatLevelStep
 
 // One event on a context and two tables, each beside its tally and into its own buffer. Where either table refuses,
 // nothing is written, and the context and the counts come back as they came.
+#[tactic(auto, unfolding(crate::specs::Flat::flat_levels_step, crate::specs::Flat::flat_first_pcids, crate::specs::Flat::flat_first_written, crate::specs::Flat::flat_second_pcids, crate::specs::Flat::flat_second_written))]
 pub fn step(
     context: FlatContext,
     event: &[u8],
@@ -125,13 +131,13 @@ pub fn step(
     ensures second_pcids_after { second_pcids.new ≡ flat_second_pcids context event.now (handed kinds pcids.old table.now new.old) (handed second_kinds second_pcids.old second_table.now second_new.old) }
     ensures second_new_after { second_new.new ≡ flat_second_written context event.now (handed kinds pcids.old table.now new.old) (handed second_kinds second_pcids.old second_table.now second_new.old) }
 {
-    if !flat_contexts::is_known(context) {
+    if !context.is_known() {
         return refused(context, kinds, second_kinds);
     }
     flat_result(
         context,
         level_steps::step(
-            flat_contexts::context_of(context),
+            Context::from(context),
             event,
             kinds,
             pcids,
@@ -145,24 +151,43 @@ pub fn step(
     )
 }
 
+// No part, with an answer.
+fn no_part(answer: u64) -> FlatLevelPart
+    ensures { result ≡ flat_part answer 0 0 0 }
+{
+    FlatLevelPart {
+        answer,
+        level: 0,
+        start: 0,
+        length: 0,
+    }
+}
+
+// A part of the table of a level.
+fn part_of(level: u64, part: Part) -> FlatLevelPart
+    requires { part.start ≤ part.end }
+    ensures { result ≡ flat_part 0 level part.start part.end }
+{
+    FlatLevelPart {
+        answer: 0,
+        level,
+        start: part.start,
+        length: part.end - part.start,
+    }
+}
+
 // The first usable translation at a linear address, as a part of the first table if that has one, else of the second.
+#[tactic(auto, unfolding(crate::specs::Flat::flat_levels_lookup))]
 pub fn look_up(context: FlatContext, first: &[u8], second: &[u8], address: u64) -> FlatLevelPart
     ensures { result ≡ flat_levels_lookup context address first.now second.now }
 {
-    if !flat_contexts::is_known(context) {
-        return FlatLevelPart {
-            answer: 1,
-            level: 0,
-            start: 0,
-            length: 0,
-        };
+    if !context.is_known() {
+        return no_part(1);
     }
-    let found = level_lookups::find(flat_contexts::context_of(context), address, first, second);
-    let length = found.end - found.start;
-    FlatLevelPart {
-        answer: found.answer,
-        level: found.level,
-        start: found.start,
-        length,
+    match level_lookups::find(Context::from(context), address, first, second) {
+        Ok(Some(FoundInLevels::First(part))) => part_of(1, part),
+        Ok(Some(FoundInLevels::Second(part))) => part_of(2, part),
+        Ok(None) => no_part(0),
+        Err(why) => no_part(why.number()),
     }
 }

@@ -3,7 +3,7 @@
 
 ghost use Rattle.std.specs.Prelude.{◌≡◌, length};
 ghost use Rattle.readers.specs.Readers.{emptied};
-ghost use Rattle.fragments.specs.Fragments.{untaken, taken_of, taken_pcids, taken_written, cut_answer, finished_of};
+ghost use Rattle.fragments.specs.Fragments.{untaken, taken_of, taken_pcids, taken_written, finished_of};
 
 use model::{Context, Step};
 use readers::Reader;
@@ -12,6 +12,7 @@ use tally_rows::KindCounts;
 // What a call leaves: the reader, how many bytes of the fragment it took, whether it finished an event, and of this event
 // the step and the counts by kind and span after it. Where it finished none, the step's numbers are 0, and its context and
 // the counts are as they came.
+// Kept: the theorems of `streams` name `finished` and the step beside it.
 #[derive(Clone, Copy)]
 pub struct Taken {
     pub reader: Reader,
@@ -22,6 +23,7 @@ pub struct Taken {
 }
 
 // What a finish call leaves: the reader, whether it reports an event, and the answer to it, 0 where there is none.
+// Kept: the theorems of `streams` name `finished` and the answer beside it.
 #[derive(Clone, Copy)]
 pub struct Finished {
     pub reader: Reader,
@@ -66,23 +68,23 @@ pub fn take(
     ensures after { new.new ≡ taken_written reader c kinds pcids.old table.now fragment.now new.old }
 {
     let width = c.linear_width;
-    if readers::is_ignoring(width, reader) {
+    if reader.is_ignoring(width) {
         return unfinished(reader, c, kinds, fragment.len());
     }
-    let all = readers::gather(reader, fragment);
+    let all = reader.gather(fragment);
     let bytes = all.bytes;
     let count = all.length;
     let first = readers::first_of(width, &bytes[..count]);
-    if count < first.size {
-        return unfinished(readers::hold(reader, fragment), c, kinds, fragment.len());
+    let size = first.unwrap_or(1);
+    if count < size {
+        return unfinished(reader.hold(fragment), c, kinds, fragment.len());
     }
-    let size = first.size;
     let counted = counted_steps::counted_step(c, kinds, pcids, table, &bytes[..size], new);
     let step = counted.step;
     let rows = counted.kinds;
-    let ignoring = !first.known | ((step.answer == 2) | (step.answer == 3));
+    let ignoring = first.is_none() | ((step.answer == 2) | (step.answer == 3));
     Taken {
-        reader: readers::report(reader, ignoring),
+        reader: reader.report(ignoring),
         taken: size - reader.length,
         finished: true,
         step,
@@ -90,23 +92,12 @@ pub fn take(
     }
 }
 
-// The answer to a cut record: 1, 2 or 3, else 4.
-fn answer_to_cut(c: Context, table: &[u8]) -> u64
-    ensures { result ≡ cut_answer c table.now }
-{
-    let answer = tables::answer_to_table(c, table);
-    if answer == 0 {
-        return 4;
-    }
-    answer
-}
-
-// Ends a log: bytes that are held are reported as a cut record, and the ignoring begins. A reader that ignores is
-// handed back as it came.
+// Ends a log: bytes that are held are reported as a cut record, with 1, 2 or 3, of the context and the table, else 4, and
+// the ignoring begins. A reader that ignores is handed back as it came.
 pub fn finish(reader: Reader, c: Context, table: &[u8]) -> Finished
     ensures { result ≡ finished_of reader c table.now }
 {
-    if readers::is_ignoring(c.linear_width, reader) {
+    if reader.is_ignoring(c.linear_width) {
         return Finished {
             reader,
             finished: false,
@@ -115,15 +106,15 @@ pub fn finish(reader: Reader, c: Context, table: &[u8]) -> Finished
     }
     if reader.length == 0 {
         return Finished {
-            reader: readers::end(reader),
+            reader: reader.end(),
             finished: false,
             answer: 0,
         };
     }
     Finished {
-        reader: readers::report(reader, true),
+        reader: reader.report(true),
         finished: true,
-        answer: answer_to_cut(c, table),
+        answer: counted_steps::refuse_invalid(c, table).number(),
     }
 }
 
@@ -131,5 +122,5 @@ pub fn finish(reader: Reader, c: Context, table: &[u8]) -> Finished
 pub fn reset(reader: Reader) -> Reader
     ensures { result ≡ emptied reader }
 {
-    readers::reset(reader)
+    reader.reset()
 }

@@ -1,12 +1,12 @@
-// The ground that is an event's own: 7 to 11, of its operands, its place, its fields or its tags; and which rule of an
-// EPTP it is.
+// Whether an event is refused for its own operands, place, fields or tags: 7 to 11; and which rule of an EPTP is broken.
 #![tactic(auto)]
 
 ghost use Rattle.std.specs.Prelude.{cond, ◌≡◌, ◌/◌, ◌^◌, eqb};
 ghost use Rattle.model.specs.Context.{in_root};
-ghost use Rattle.model.specs.Answers.{eptp_rule, good_eptp, invvpid_supported, bad_invvpid, invept_supported, bad_invept, bad_invpcid, ept_in_use, bad_entry, creatable, own_ground, own_rule};
+ghost use Rattle.model.specs.Answers.{eptp_rule, invvpid_supported, bad_invvpid, invept_supported, bad_invept, bad_invpcid, ept_in_use, bad_entry, creatable, own_ground, own_rule};
+ghost use Rattle.model.specs.Refusals.{rule_number, refusal_number, refusal_rule, answer_of, rule_of};
 
-use model::{Context, Entry, Ept, Event, Mapping, Operands, Place};
+use model::{Context, Entry, Ept, EptpRule, Event, Mapping, Operands, Place, Refusal};
 
 // How many numbers bits 63 to 16 of a descriptor, above its VPID, can hold, and bits 63 to 12, above its PCID.
 const ABOVE_VPID: u64 = 281474976710656;
@@ -23,38 +23,30 @@ fn is_within_width(eptp: u64, width: u64) -> bool
     (eptp >> width) == 0
 }
 
-// The first rule that an EPTP breaks under the context's capability and width: 1 memory type, 2 walk length,
-// 3 accessed and dirty flag, 4 bits 11:7, 5 bits above the width; 0 if it is good.
-pub fn eptp_rule(c: Context, eptp: u64) -> u64
-    ensures { result ≡ eptp_rule c eptp }
+// The first rule that an EPTP breaks under the context's capability and width; none if it is good.
+pub fn eptp_rule(c: Context, eptp: u64) -> Option<EptpRule>
+    ensures { rule_number result ≡ eptp_rule c eptp }
 {
     let capability = c.capability;
     let memory_type = eptp % 8;
     if !(((memory_type == 0) & ((capability >> 8) % 2 == 1))
         | ((memory_type == 6) & ((capability >> 14) % 2 == 1)))
     {
-        return 1;
+        return Some(EptpRule::MemoryType);
     }
     if !(((eptp >> 3) % 8 == 3) & ((capability >> 6) % 2 == 1)) {
-        return 2;
+        return Some(EptpRule::WalkLength);
     }
     if !(!((eptp >> 6) % 2 == 1) | ((capability >> 21) % 2 == 1)) {
-        return 3;
+        return Some(EptpRule::DirtyFlag);
     }
     if !((eptp >> 7) % 32 == 0) {
-        return 4;
+        return Some(EptpRule::ReservedBits);
     }
     if !is_within_width(eptp, c.width) {
-        return 5;
+        return Some(EptpRule::BeyondWidth);
     }
-    0
-}
-
-// The EPTP is good: it breaks no rule.
-fn is_good_eptp(c: Context, eptp: u64) -> bool
-    ensures { result ≡ good_eptp c eptp }
-{
-    eptp_rule(c, eptp) == 0
+    None
 }
 
 // The capability has this INVVPID type.
@@ -94,14 +86,24 @@ fn is_invept_supported(capability: u64, type_number: u64) -> bool
     }
 }
 
-// The operands of an INVEPT are invalid.
-fn is_bad_invept(c: Context, o: Operands) -> bool
-    ensures { result ≡ bad_invept c o }
+// Refuses the operands of an INVEPT: its type and its descriptor's upper half come before the EPTP.
+fn check_invept(c: Context, o: Operands) -> Result<(), Refusal>
+    ensures answer { answer_of result ≡ cond (bad_invept c o) 8 0 }
+    ensures rule { rule_of result ≡ own_rule c (Event.Invept o) }
 {
-    let type_number = o.type_number;
-    !is_invept_supported(c.capability, type_number)
-        | !(o.high == 0)
-        | ((type_number == 1) & !is_good_eptp(c, o.low))
+    if !is_invept_supported(c.capability, o.type_number) {
+        return Err(Refusal::InvalidOperand(None));
+    }
+    if o.high != 0 {
+        return Err(Refusal::InvalidOperand(None));
+    }
+    if o.type_number != 1 {
+        return Ok(());
+    }
+    match eptp_rule(c, o.low) {
+        Some(rule) => Err(Refusal::InvalidOperand(Some(rule))),
+        None => Ok(()),
+    }
 }
 
 // The operands of an INVPCID are invalid.
@@ -115,32 +117,35 @@ fn is_bad_invpcid(c: Context, o: Operands) -> bool
         | ((type_number == 0) & !addresses::is_canonical(c.linear_width, o.high))
 }
 
-// The fields of a VM entry fail it.
-fn is_bad_entry(c: Context, n: Entry) -> bool
-    ensures { result ≡ bad_entry c n }
+// Refuses the fields of a VM entry: its VPID comes before the EPTP.
+fn check_entry(c: Context, n: Entry) -> Result<(), Refusal>
+    ensures answer { answer_of result ≡ cond (bad_entry c n) 10 0 }
+    ensures rule { rule_of result ≡ own_rule c (Event.Entry n) }
 {
-    ((n.vpids == 1) & (n.vpid == 0)) | ((n.ept == 1) & !is_good_eptp(c, n.eptp))
+    if (n.vpids == 1) & (n.vpid == 0) {
+        return Err(Refusal::EntryFailure(None));
+    }
+    if n.ept != 1 {
+        return Ok(());
+    }
+    match eptp_rule(c, n.eptp) {
+        Some(rule) => Err(Refusal::EntryFailure(Some(rule))),
+        None => Ok(()),
+    }
 }
 
 // The place is VMX root operation.
 fn is_in_root(place: Place) -> bool
     ensures { result ≡ in_root place }
 {
-    match place {
-        Place::Outside => false,
-        Place::Root => true,
-        Place::Guest(_) => false,
-    }
+    place == Place::Root
 }
 
 // EPT is in use.
 fn is_ept_in_use(ept: Ept) -> bool
     ensures { result ≡ ept_in_use ept }
 {
-    match ept {
-        Ept::Off => false,
-        Ept::On(_) => true,
-    }
+    ept != Ept::Off
 }
 
 // The mapping can be created here.
@@ -162,74 +167,33 @@ fn is_creatable(c: Context, m: Mapping) -> bool
         | (combined & current & same_vpid & same_pcid)
 }
 
-// The number of a ground where it applies, or 0.
-fn number_if(applies: bool, number: u64) -> u64
-    ensures { result ≡ cond applies number 0 }
+// Refuses where a ground that names no rule applies.
+fn refuse_if(applies: bool, refusal: Refusal) -> Result<(), Refusal>
+    ensures answer { answer_of result ≡ cond applies (refusal_number refusal) 0 }
+    ensures rule { refusal_rule refusal ≡ 0 → rule_of result ≡ 0 }
 {
-    if applies { number } else { 0 }
+    if applies { Err(refusal) } else { Ok(()) }
 }
 
-// The number of the ground that is the event's own, where it applies here, or 0: 8 for INVVPID and
-// INVEPT, 9 for VMXON, VM exits and EPT violations, 10 for VM entries, 11 for creations, 7 for INVPCID.
-pub fn own_ground(c: Context, e: Event) -> u64
-    ensures { result ≡ own_ground c e }
-{
-    let place = c.place;
-    match e {
-        Event::Creation(m) => number_if(!is_creatable(c, m), 11),
-        Event::Invvpid(o) => number_if(is_bad_invvpid(c, o), 8),
-        Event::Invept(o) => number_if(is_bad_invept(c, o), 8),
-        Event::Invlpg(_) => 0,
-        Event::EptViolation(_) => number_if(!is_ept_in_use(contexts::ept(place)), 9),
-        Event::Entry(n) => number_if(is_bad_entry(c, n), 10),
-        Event::Exit(_) => number_if(!contexts::is_in_guest(place), 9),
-        Event::Vmxon => number_if(is_in_root(place), 9),
-        Event::Vmxoff => 0,
-        Event::NewPcid(_) => 0,
-        Event::Reset => 0,
-        Event::Invpcid(o) => number_if(is_bad_invpcid(c, o), 7),
-        Event::MovToCr3(_) => 0,
-    }
-}
-
-// The rule that the EPTP of an INVEPT breaks, where its type and its descriptor's upper half pass.
-fn invept_rule(c: Context, o: Operands) -> u64
-    ensures { result ≡ own_rule c (Event.Invept o) }
-{
-    let type_number = o.type_number;
-    if is_invept_supported(c.capability, type_number) & (o.high == 0) & (type_number == 1) {
-        return eptp_rule(c, o.low);
-    }
-    0
-}
-
-// The rule that the EPTP of a VM entry breaks, where its VPID passes.
-fn entry_rule(c: Context, n: Entry) -> u64
-    ensures { result ≡ own_rule c (Event.Entry n) }
-{
-    if !((n.vpids == 1) & (n.vpid == 0)) & (n.ept == 1) {
-        return eptp_rule(c, n.eptp);
-    }
-    0
-}
-
-// The rule that the event's EPTP breaks where it comes to that, or 0: of an INVEPT or a VM entry.
-pub fn own_rule(c: Context, e: Event) -> u64
-    ensures { result ≡ own_rule c e }
+// Refuses an event for a ground of its own: 8 for INVVPID and INVEPT, 9 for VMXON, VM exits and EPT violations, 10 for VM
+// entries, 11 for creations, 7 for INVPCID; an INVEPT and a VM entry with the rule that the EPTP breaks where it comes to
+// that.
+pub fn check_event(c: Context, e: Event) -> Result<(), Refusal>
+    ensures answer { answer_of result ≡ own_ground c e }
+    ensures rule { rule_of result ≡ own_rule c e }
 {
     match e {
-        Event::Creation(_) => 0,
-        Event::Invvpid(_) => 0,
-        Event::Invept(o) => invept_rule(c, o),
-        Event::Invlpg(_) => 0,
-        Event::EptViolation(_) => 0,
-        Event::Entry(n) => entry_rule(c, n),
-        Event::Exit(_) => 0,
-        Event::Vmxon => 0,
-        Event::Vmxoff => 0,
-        Event::NewPcid(_) => 0,
-        Event::Reset => 0,
-        Event::Invpcid(_) => 0,
-        Event::MovToCr3(_) => 0,
+        Event::Creation(m) => refuse_if(!is_creatable(c, m), Refusal::NotCreatable),
+        Event::Invvpid(o) => refuse_if(is_bad_invvpid(c, o), Refusal::InvalidOperand(None)),
+        Event::Invept(o) => check_invept(c, o),
+        Event::EptViolation(_) => {
+            refuse_if(!is_ept_in_use(contexts::ept(c.place)), Refusal::NoPlace)
+        }
+        Event::Entry(n) => check_entry(c, n),
+        Event::Exit(_) => refuse_if(!contexts::is_in_guest(c.place), Refusal::NoPlace),
+        Event::Vmxon => refuse_if(is_in_root(c.place), Refusal::NoPlace),
+        Event::Invpcid(o) => refuse_if(is_bad_invpcid(c, o), Refusal::GeneralProtection),
+        Event::Invlpg(_) | Event::Vmxoff | Event::NewPcid(_) | Event::Reset | Event::MovToCr3(_) =>
+            Ok(()),
     }
 }

@@ -1,5 +1,5 @@
 -- Events: what the event reader's answer says, and that a valid creation is an exactly valid record.
-use Rattle.std.specs.Prelude.{ℕ, ◌≡◌, Bool, cond, ◌&&◌, ◌||◌, List, [], ◌∷◌, length}
+use Rattle.std.specs.Prelude.{ℕ, ◌≡◌, Bool, cond, ◌&&◌, ◌||◌, List, [], ◌∷◌, Some, None, length}
 use Rattle.std.proofs.Math.Path.{refl}
 use Rattle.std.proofs.Common.{sym, ap, ◌∙◌, arith}
 use Rattle.std.proofs.Math.Bool.{true, false, not, and-false, and-eq-true_iff}
@@ -9,7 +9,6 @@ use borrow.Author.Tests.{eqb-true}
 use Rattle.model.specs.declared.Event.{Event}
 use Rattle.model.specs.declared.Event.TheVariants.{Creation}
 use Rattle.model.specs.declared.Mapping.{Mapping}
-use Rattle.model.specs.declared.EventReading.TheVariants.{Read, Invalid}
 use Rattle.model.specs.Layouts.{kind_of, mapping_kind, event_kind, length_of}
 use Rattle.model.specs.Mappings.{mapping, Held, other_width, fields_in_range}
 use Rattle.model.specs.Events.{event, event_in_range, valid_event, event_reading}
@@ -54,19 +53,19 @@ other_width_invalid w e other =
     rw (event_creation e (other_width_known w (kind_of e) other), other, and-false, and-false)
 
 -- what the event reader's answer says of the bytes
-pub valid_event_read : (w : ℕ) (e : List ℕ) (x : Event) → event_reading w e ≡ Read x → (valid_event w e ≡ true) × (x ≡ event e)
+pub valid_event_read : (w : ℕ) (e : List ℕ) (x : Event) → event_reading w e ≡ Some x → (valid_event w e ≡ true) × (x ≡ event e)
 unfolding event_reading
 valid_event_read w e x h = go (valid_event w e) refl h
   where
-    go : (b : Bool) → valid_event w e ≡ b → cond b (Read (event e)) Invalid ≡ Read x → (valid_event w e ≡ true) × (x ≡ event e)
+    go : (b : Bool) → valid_event w e ≡ b → cond b (Some (event e)) None ≡ Some x → (valid_event w e ≡ true) × (x ≡ event e)
     go true v k = (v, cc)
     go false v k = absurd (let z : ◌≡◌ {A = ℕ} 0 1 = cc in omega arith)
 
-pub valid_event_invalid : (w : ℕ) (e : List ℕ) → event_reading w e ≡ Invalid → valid_event w e ≡ false
+pub valid_event_invalid : (w : ℕ) (e : List ℕ) → event_reading w e ≡ None → valid_event w e ≡ false
 unfolding event_reading
 valid_event_invalid w e h = go (valid_event w e) refl h
   where
-    go : (b : Bool) → valid_event w e ≡ b → cond b (Read (event e)) Invalid ≡ Invalid → valid_event w e ≡ false
+    go : (b : Bool) → valid_event w e ≡ b → cond b (Some (event e)) None ≡ None → valid_event w e ≡ false
     go true v k = absurd (let z : ◌≡◌ {A = ℕ} 0 1 = cc in omega arith)
     go false v k = v
 

@@ -10,6 +10,7 @@ pub mod Context
 pub mod Scopes
 pub mod Answers
 pub mod Steps
+pub mod Refusals
 pub mod Reasons
 pub mod Entries
 pub mod Rules

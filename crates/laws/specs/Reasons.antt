@@ -14,7 +14,6 @@ use Rattle.model.specs.declared.Event.{Event}
 use Rattle.model.specs.declared.Mapping.{Mapping}
 use Rattle.model.specs.declared.Reason.{Reason}
 use Rattle.model.specs.declared.Reason.TheVariants.{NoScope, NotCanonical, WrongKind, WrongVpid, WrongPcid, WrongEp4ta, NotCovering, SparedAsGlobal, InScope}
-use Rattle.model.specs.declared.Explanation.TheVariants.{Refused, Accepted}
 use Rattle.model.specs.Context.{in_range}
 use Rattle.model.specs.Layouts.{kind_of, mapping_kind, length_of}
 use Rattle.model.specs.Mappings.{mapping, other_width, starts_record}
@@ -23,7 +22,7 @@ use Rattle.model.specs.Events.{event, valid_event}
 use Rattle.model.specs.Scopes.{Tests, passed, asked, has_scope, scope}
 use Rattle.model.specs.Answers.{first, created, no_room, valid_table, stored_grounds, table_grounds, event_answer, rule_with, answer}
 use Rattle.model.specs.Steps.{dropped_count, accepted_step, refused_step, stepped}
-use Rattle.model.specs.Reasons.{unless, first_failed, drops, reason, one_record, explained_answer, explanation}
+use Rattle.model.specs.Reasons.{unless, first_failed, drops, reason, one_record, explained_answer, Refused, Accepted, explanation}
 use Rattle.laws.specs.Lists.{Every, every_one, every_head}
 use Rattle.laws.specs.Layouts.{length_of_mapping_le}
 use Rattle.laws.specs.Mappings.{Valid, valid_made, valid_starts, starts_parts, record_length_starts}

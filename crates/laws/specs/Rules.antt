@@ -1,13 +1,13 @@
 -- Document 02, Ask 6: the rule is 0 exactly if the EPTP is good by document 01, and an event without a ground of its
 -- own breaks none.
 use Rattle.std.specs.Prelude.{ℕ, ◌<◌, Bool, true, false, cond, not, ◌&&◌, ◌||◌, List, [], ◌∷◌, ◌≡◌, refl, eqb, ltb, length}
-use Rattle.std.proofs.Common.{arith, eqb-true, ne_eqb}
+use Rattle.std.proofs.Common.{arith, sym, eqb-true, ne_eqb}
 use Rattle.model.specs.declared.Context.{Context}
 use Rattle.model.specs.declared.Event.{Event}
 use Rattle.model.specs.declared.Event.TheVariants.{Creation, Invvpid, Invept, Invlpg, EptViolation, Entry, Exit, Vmxon, Vmxoff, NewPcid, Reset, Invpcid, MovToCr3}
 use Rattle.model.specs.Context.{in_range}
 use Rattle.model.specs.Tables.{limit}
-use Rattle.model.specs.Answers.{first, good_memory_type, good_walk_length, good_dirty_flag, good_bits_11_7, good_width, good_eptp, eptp_rule, invept_supported, bad_invept, bad_entry, own_ground, own_rule, rule_with, valid_table, table_grounds}
+use Rattle.model.specs.Answers.{first, good_memory_type, good_walk_length, good_dirty_flag, good_bits_11_7, good_width, good_eptp, eptp_rule, invept_supported, bad_invept, bad_entry, own_ground, own_rule, among, rule_with, valid_table, table_grounds}
 
 pub eptp_rule_good : (c : Context) (eptp : ℕ) → eqb (eptp_rule c eptp) 0 ≡ good_eptp c eptp
 unfolding eptp_rule good_eptp first
@@ -62,6 +62,33 @@ own_rule_none c (NewPcid n) h = refl
 own_rule_none c Reset h = refl
 own_rule_none c (Invpcid o) h = refl
 own_rule_none c (MovToCr3 pcid) h = refl
+
+-- an event's rule goes with its own ground, 8 or 10; where that is 0, the rule is 0
+module _ (c : Context) (e : Event) where
+  among_none : (b : Bool) → ◌≡◌ {A = ℕ} (cond b 0 0) 0
+  among_none true = refl
+  among_none false = refl
+
+  among_ground : (n : ℕ) (bad : Bool) → among n (8 ∷ 10 ∷ []) ≡ true → own_ground c e ≡ cond bad n 0
+      → cond (among (own_ground c e) (8 ∷ 10 ∷ [])) (own_rule c e) 0 ≡ own_rule c e
+  among_ground n true is own = rw (own, is)
+  among_ground n false is own = rw own (sym (own_rule_none c e own))
+
+pub own_rule_among : (c : Context) (e : Event) → cond (among (own_ground c e) (8 ∷ 10 ∷ [])) (own_rule c e) 0 ≡ own_rule c e
+unfolding own_ground own_rule
+own_rule_among c (Creation m) = among_none c (Creation m) _
+own_rule_among c (Invvpid o) = among_none c (Invvpid o) _
+own_rule_among c (Invept o) = among_ground c (Invept o) 8 (bad_invept c o) refl refl
+own_rule_among c (Invlpg address) = refl
+own_rule_among c (EptViolation v) = among_none c (EptViolation v) _
+own_rule_among c (Entry n) = among_ground c (Entry n) 10 (bad_entry c n) refl refl
+own_rule_among c (Exit pcid) = among_none c (Exit pcid) _
+own_rule_among c Vmxon = among_none c Vmxon _
+own_rule_among c Vmxoff = refl
+own_rule_among c (NewPcid n) = refl
+own_rule_among c Reset = refl
+own_rule_among c (Invpcid o) = among_none c (Invpcid o) _
+own_rule_among c (MovToCr3 pcid) = refl
 
 -- no rule goes with a number below 8, such as those of a context or a table
 pub rule_below_8 : (c : Context) (e : List ℕ) (n : ℕ) → n < 8 → 0 ≡ rule_with c e n

@@ -12,8 +12,7 @@ use Rattle.model.specs.Tables.{joined, cut, records_within, records, whole, of_w
 use Rattle.model.specs.Events.{canonical}
 use Rattle.model.specs.Answers.{first, valid_table, table_grounds}
 use Rattle.model.specs.Lookups.{translates_linear, usable, lookup_answer, start_of}
-use Rattle.level_lookups.specs.declared.FoundInLevels.{FoundInLevels}
-use Rattle.level_lookups.specs.Levels.{usable_translation, usable_translations, lookup_levels_answer, lookup_levels_level, lookup_levels, lookup_levels_start, found_in}
+use Rattle.level_lookups.specs.Levels.{usable_translation, usable_translations, lookup_levels_answer, lookup_levels_level, lookup_levels, lookup_levels_start, FoundIn, found_in}
 
 -- a guest of VPID 5 and PCID 1, at a linear width, with an EPT state; and a CPL out of its range
 guest : ℕ → Ept → Context
@@ -60,7 +59,7 @@ B = translation 1 1 0 0xBBBBB
 here : ℕ
 here = 0x12345678
 
-found : ℕ → ℕ → ℕ → ℕ → FoundInLevels
+found : ℕ → ℕ → ℕ → ℕ → FoundIn
 found answer level start end = record { answer = answer; level = level; start = start; end = end }
 
 -- which kinds of records are usable translations, with EPT off and on

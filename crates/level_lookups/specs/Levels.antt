@@ -1,13 +1,16 @@
 -- Document 02, Ask 10: "Let a lookup of a linear address take two tables and hand back the first usable translation (kind
 -- 1 or 3), from the first-level table if it has one and else from the second."
-use Rattle.std.specs.Prelude.{ℕ, ◌+◌, ◌-◌, ◌≤◌, Bool, true, false, cond, not, ◌&&◌, List, [], ◌∷◌, ◌≡◌, eqb, length, get_or, take, drop}
+use Rattle.std.specs.Prelude.{ℕ, ◌+◌, ◌-◌, ◌≤◌, Bool, true, false, cond, not, ◌&&◌, List, [], ◌∷◌, Option, Some, None, Result, Ok, Err, ◌≡◌, eqb, length, get_or, take, drop}
 use Rattle.model.specs.declared.Context.{Context}
 use Rattle.model.specs.declared.Address.TheVariants.{Linear}
 use Rattle.model.specs.declared.Mapping.{Mapping}
+use Rattle.model.specs.declared.Refusal.{Refusal}
 use Rattle.model.specs.Mappings.{mapping, structure_cache}
+use Rattle.model.specs.Refusals.{refusal_number}
 use Rattle.model.specs.Tables.{records, only}
 use Rattle.model.specs.Lookups.{usable, lookup_answer, start_of}
 use Rattle.level_lookups.specs.declared.FoundInLevels.{FoundInLevels}
+use Rattle.level_lookups.specs.declared.FoundInLevels.TheVariants.{First, Second}
 
 -- a usable translation: document 01's usable records that are no structure cache, so "kind 1 or 3", and at 57 bits 7 or 8
 unfoldable pub usable_translation : Context → ℕ → Mapping → Bool
@@ -53,7 +56,14 @@ lookup_levels_start c address t u =
     (start_of (λ r. usable_translation c address (mapping r)) 0 (records u) 0)
     0
 
-unfoldable pub found_in : Context → ℕ → List ℕ → List ℕ → FoundInLevels
+-- what a lookup tells, in numbers: its answer, the level that has the part, and where the part starts and ends there
+pub record FoundIn : Type 0 where
+  pub answer : ℕ
+  pub level : ℕ
+  pub start : ℕ
+  pub end : ℕ
+
+unfoldable pub found_in : Context → ℕ → List ℕ → List ℕ → FoundIn
 found_in c address t u =
     record {
       answer = lookup_levels_answer c t u;
@@ -62,8 +72,15 @@ found_in c address t u =
       end = lookup_levels_start c address t u + length (lookup_levels c address t u);
     }
 
+-- the numbers of what is found: level 1 or 2, and 0, 0 and 0 where there is none or a table is refused
+abbrev pub in_numbers : Result (Option FoundInLevels) Refusal → FoundIn
+in_numbers (Ok None) = record { answer = 0; level = 0; start = 0; end = 0 }
+in_numbers (Ok (Some (First part))) = record { answer = 0; level = 1; start = part.start; end = part.end }
+in_numbers (Ok (Some (Second part))) = record { answer = 0; level = 2; start = part.start; end = part.end }
+in_numbers (Err refusal) = record { answer = refusal_number refusal; level = 0; start = 0; end = 0 }
+
 -- the part stands there, between start and end of the table of its level
-pub record Stands (c : Context) (address : ℕ) (t u : List ℕ) (r : FoundInLevels) : Type 0 where
+pub record Stands (c : Context) (address : ℕ) (t u : List ℕ) (r : FoundIn) : Type 0 where
   pub ordered : r.start ≤ r.end
   pub within : r.end ≤ length (cond (eqb r.level 2) u t)
   pub part : take (r.end - r.start) (drop r.start (cond (eqb r.level 2) u t)) ≡ lookup_levels c address t u

@@ -2,10 +2,11 @@
 #![tactic(auto)]
 
 ghost use Rattle.std.specs.Prelude.{◌≡◌};
+ghost use Rattle.model.specs.Refusals.{refusal_number, refusal_rule};
 ghost use Rattle.level_steps.specs.Levels.{handed, level_of, levels_refusal, levels_stepped, pcids_of_first, first_written, pcids_of_second, second_written};
 
 use counted_steps::CountedStep;
-use model::{Context, EventReading};
+use model::{Context, Refusal};
 use tally_rows::KindCounts;
 
 // What a step reports of one table: its length and its dropped count, and the counts by kind and span after it.
@@ -17,6 +18,7 @@ pub struct Level {
 }
 
 // What a step of two tables reports: the answer and the rule of the EPTP that goes with it, the context, and each table.
+// Kept: the answer is a number, which the theorems of `level_runs` name.
 #[derive(Clone, Copy)]
 pub struct LevelStep {
     pub answer: u64,
@@ -40,17 +42,16 @@ fn level_of(s: CountedStep) -> Level
 
 // What a refused step reports, with the counts as they came.
 fn refused(
-    answer: u64,
-    rule: u64,
+    why: Refusal,
     context: Context,
     kinds: [KindCounts; 6],
     second_kinds: [KindCounts; 6],
 ) -> LevelStep
-    ensures { result ≡ levels_refusal answer rule context kinds second_kinds }
+    ensures { result ≡ levels_refusal (refusal_number why) (refusal_rule why) context kinds second_kinds }
 {
     LevelStep {
-        answer,
-        rule,
+        answer: why.number(),
+        rule: why.rule(),
         context,
         first: Level {
             length: 0,
@@ -86,20 +87,19 @@ pub fn step(
     ensures second_pcids_after { second_pcids.new ≡ pcids_of_second c event.now (handed kinds pcids.old table.now new.old) (handed second_kinds second_pcids.old second_table.now second_new.old) }
     ensures second_new_after { second_new.new ≡ second_written c event.now (handed kinds pcids.old table.now new.old) (handed second_kinds second_pcids.old second_table.now second_new.old) }
 {
-    let EventReading::Read(e) = events::read_event(c.linear_width, event) else {
+    let Some(e) = events::read_event(c.linear_width, event) else {
         return refused(
-            counted_steps::answer_to_invalid(c, table),
-            0,
+            counted_steps::refuse_invalid(c, table),
             c,
             kinds,
             second_kinds,
         );
     };
-    let shown = counted_steps::judge(c, e, kinds, pcids, table, event, new.len());
-    if shown.answer != 0 {
-        return refused(shown.answer, shown.rule, c, kinds, second_kinds);
-    }
-    let second_shown = counted_steps::judge(
+    let shown = match counted_steps::judge(c, e, kinds, pcids, table, event, new.len()) {
+        Ok(shown) => shown,
+        Err(why) => return refused(why, c, kinds, second_kinds),
+    };
+    let second_shown = match counted_steps::judge(
         c,
         e,
         second_kinds,
@@ -107,16 +107,10 @@ pub fn step(
         second_table,
         event,
         second_new.len(),
-    );
-    if second_shown.answer != 0 {
-        return refused(
-            second_shown.answer,
-            second_shown.rule,
-            c,
-            kinds,
-            second_kinds,
-        );
-    }
+    ) {
+        Ok(shown) => shown,
+        Err(why) => return refused(why, c, kinds, second_kinds),
+    };
     let first = counted_steps::perform(c, e, kinds, pcids, table, event, shown, new);
     let second = counted_steps::perform(
         c,
@@ -128,11 +122,10 @@ pub fn step(
         second_shown,
         second_new,
     );
-    let context = second.step.context;
     LevelStep {
         answer: 0,
         rule: 0,
-        context,
+        context: second.step.context,
         first: level_of(first),
         second: level_of(second),
     }

@@ -30,6 +30,7 @@ pub struct Progress {
 }
 
 // How far a replay is after an event, and its answer and dropped count.
+// Kept: the answer is the number that a row of the replay has.
 #[derive(Clone, Copy)]
 pub struct Advanced {
     pub progress: Progress,
@@ -39,6 +40,7 @@ pub struct Advanced {
 
 // How many bytes the first event of a log has by its kind, more than the log where the record is cut; 0
 // where the kind is unknown at the linear width or there is no byte. Any width but 57 is read as 48.
+// Kept: 0 for an unknown kind, as `skuldrefn_event_length` answers in C.
 pub fn length_of_event(width: u64, log: &[u8]) -> usize
     ensures { result ≡ told_length width log.now }
 {
@@ -131,6 +133,7 @@ pub fn replay(
     let width = c.linear_width;
     let most = rows.len() / ROW;
     let mut p = start(c);
+    // Kept: the loop carries two buffers, and ends where the log or the room for rows does.
     while (p.at < log.len()) & (p.count < most) {
         let advanced = advance(width, p, log, first, second);
         let at = ROW * p.count;

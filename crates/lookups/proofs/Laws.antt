@@ -1,3 +1,4 @@
--- The laws of what a lookup asks, and of the search.
+-- The laws of what a lookup asks, of the search, and of what it finds.
 pub mod Seeking
 pub mod Searching
+pub mod Finding

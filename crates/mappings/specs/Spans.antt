@@ -7,7 +7,7 @@ use Rattle.model.specs.Mappings.{mapping, wide}
 abbrev pub page_bytes : ℕ → ℕ
 page_bytes kind = cond (wide kind) 6 5
 
--- where the span of the record at the front of r stands, with its page and its frame behind it
+-- where the span of the record at the front of r stands, with its page and its frame after it
 pub record SpanAt (r : List ℕ) (at : ℕ) : Type 0 where
   pub span : number 1 at r ≡ (mapping r).span
   pub page : number (page_bytes (mapping r).kind) (at + 1) r ≡ (mapping r).page

@@ -1,9 +1,7 @@
 -- Document 01, "Events": what an event says, and when it is valid.
-use Rattle.std.specs.Prelude.{ℕ, ◌-◌, ◌^◌, Bool, true, cond, not, ◌&&◌, ◌||◌, List, eqb, leb, ltb, length}
+use Rattle.std.specs.Prelude.{ℕ, ◌-◌, ◌^◌, Bool, true, cond, not, ◌&&◌, ◌||◌, List, Option, Some, None, eqb, leb, ltb, length}
 use Rattle.model.specs.declared.Event.{Event}
 use Rattle.model.specs.declared.Event.TheVariants.{Creation, Invvpid, Invept, Invlpg, EptViolation, Entry, Exit, Vmxon, Vmxoff, NewPcid, Reset, Invpcid, MovToCr3}
-use Rattle.model.specs.declared.EventReading.{EventReading}
-use Rattle.model.specs.declared.EventReading.TheVariants.{Read, Invalid}
 use Rattle.model.specs.declared.Mapping.{Mapping}
 use Rattle.model.specs.declared.Operands.{Operands}
 use Rattle.model.specs.declared.Violation.{Violation}
@@ -111,5 +109,5 @@ unfoldable pub valid_event : ℕ → List ℕ → Bool
 valid_event width e = event_kind (kind_of e) && eqb (length e) (length_of (kind_of e)) && event_in_range width (event e)
 
 -- what the event reader answers of the bytes e
-unfoldable pub event_reading : ℕ → List ℕ → EventReading
-event_reading width e = cond (valid_event width e) (Read (event e)) Invalid
+unfoldable pub event_reading : ℕ → List ℕ → Option Event
+event_reading width e = cond (valid_event width e) (Some (event e)) None

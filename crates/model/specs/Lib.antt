@@ -11,4 +11,5 @@ pub mod Scopes
 pub mod Answers
 pub mod Steps
 pub mod Lookups
+pub mod Refusals
 pub mod Reasons

@@ -1,13 +1,12 @@
 -- Document 02, Ask 1: why an event drops a mapping or leaves it. "A reason counts only where document 01
 -- tests it for that kind of record": the tests are those of its scopes.
-use Rattle.std.specs.Prelude.{ℕ, Bool, true, false, cond, not, ◌&&◌, List, [], ◌∷◌, eqb, length}
+use Rattle.std.specs.Prelude.{ℕ, Bool, true, false, cond, not, ◌&&◌, List, [], ◌∷◌, Result, Ok, Err, eqb, length}
 use Rattle.model.specs.declared.Context.{Context}
 use Rattle.model.specs.declared.Mapping.{Mapping}
 use Rattle.model.specs.declared.Event.{Event}
 use Rattle.model.specs.declared.Reason.{Reason}
 use Rattle.model.specs.declared.Reason.TheVariants.{NoScope, NotCanonical, WrongKind, WrongVpid, WrongPcid, WrongEp4ta, NotCovering, SparedAsGlobal, InScope}
-use Rattle.model.specs.declared.Explanation.{Explanation}
-use Rattle.model.specs.declared.Explanation.TheVariants.{Refused, Accepted}
+use Rattle.model.specs.declared.Refusal.{Refusal}
 use Rattle.model.specs.Context.{in_range}
 use Rattle.model.specs.Layouts.{kind_of, length_of}
 use Rattle.model.specs.Mappings.{mapping, other_width, starts_record}
@@ -15,6 +14,7 @@ use Rattle.model.specs.Tables.{limit}
 use Rattle.model.specs.Events.{event}
 use Rattle.model.specs.Scopes.{Tests, asked}
 use Rattle.model.specs.Answers.{first, rule_with, answer}
+use Rattle.model.specs.Refusals.{refusal_number, refusal_rule}
 
 -- a reason where its test fails, and else what comes after it
 abbrev pub unless : Bool → Reason → Reason → Reason
@@ -57,6 +57,17 @@ one_record width r = starts_record r && eqb (length r) (length_of (kind_of r)) &
 -- are not exactly one valid record are answer 3, never 2."
 unfoldable pub explained_answer : Context → List ℕ → List ℕ → ℕ
 explained_answer c r e = cond (one_record c.linear_width r) (answer c r e limit) (first ((1, not (in_range c)) ∷ (3, true) ∷ []))
+
+-- why an event drops a mapping or leaves it: the step is refused, with its answer and the rule of the EPTP that goes
+-- with it, or it is accepted and the reason decides
+pub data Explanation : Type 0 where
+  Refused : ℕ → ℕ → Explanation
+  Accepted : Reason → Explanation
+
+-- what the explainer's result says
+abbrev pub explained : Result Reason Refusal → Explanation
+explained (Ok reason) = Accepted reason
+explained (Err refusal) = Refused (refusal_number refusal) (refusal_rule refusal)
 
 -- why the event e drops the record r or leaves it: "step refused (with its number)" goes first; "the explainer adds
 -- the number" of the EPTP's rule (Ask 6)

@@ -2,6 +2,9 @@
 // stand in specs/, in the order of the document.
 #![tactic(auto)]
 
+ghost use Rattle.std.specs.Prelude.{◌≡◌};
+ghost use Rattle.model.specs.Refusals.{rule_number, refusal_number, refusal_rule};
+
 // The longest table, in bytes.
 pub const TABLE_LIMIT: usize = 47104;
 
@@ -46,14 +49,14 @@ pub struct Context {
     pub place: Place,
 }
 
-#[derive(Clone, Copy)]
+#[derive(Clone, Copy, PartialEq, Eq)]
 pub enum Place {
     Outside,
     Root,
     Guest(GuestPlace),
 }
 
-#[derive(Clone, Copy)]
+#[derive(Clone, Copy, PartialEq, Eq)]
 pub struct GuestPlace {
     // 0 exactly if VPIDs were not enabled at entry
     pub vpid: u64,
@@ -61,13 +64,15 @@ pub struct GuestPlace {
 }
 
 // EPT is not in use, or in use with an EP4TA: bits 51 to 12 of the EPTP.
-#[derive(Clone, Copy)]
+// Kept: the requirement fixes this enum (docs/DECISIONS.md, "Forms of document 01").
+#[derive(Clone, Copy, PartialEq, Eq)]
 pub enum Ept {
     Off,
     On(u64),
 }
 
 // Document 01, "Mapping records". A field that the kind does not have is 0.
+// Kept: a kind is a number, since the definition `mapping` reads any byte as one.
 #[derive(Clone, Copy)]
 pub struct Mapping {
     pub kind: u64,
@@ -108,6 +113,7 @@ pub struct Operands {
 }
 
 // An EPT violation: the guest-physical address, and with flag 1 the linear address behind it.
+// Kept: the flag is a number: a reading may have another than 0 and 1, which `event_in_range` refuses.
 #[derive(Clone, Copy)]
 pub struct Violation {
     pub physical: u64,
@@ -116,6 +122,7 @@ pub struct Violation {
 }
 
 // A VM entry: vpids and ept are the two enable flags.
+// Kept: the flags are numbers beside their values, as in a violation.
 #[derive(Clone, Copy)]
 pub struct Entry {
     pub vpids: u64,
@@ -130,13 +137,6 @@ pub struct Entry {
 pub struct NewPcid {
     pub pcid: u64,
     pub cpl: u64,
-}
-
-// What the event reader answers: the event, or that the bytes are not exactly one valid record.
-#[derive(Clone, Copy)]
-pub enum EventReading {
-    Read(Event),
-    Invalid,
 }
 
 // Document 02, Ask 1: what an accepted event says of a mapping, in the order in which it is asked. The
@@ -154,12 +154,73 @@ pub enum Reason {
     InScope,
 }
 
-// Why an event drops a mapping or leaves it: the step is refused with its answer and the rule of the EPTP that goes
-// with it, or it is accepted and the reason decides.
-#[derive(Clone, Copy)]
-pub enum Explanation {
-    Refused(u64, u64),
-    Accepted(Reason),
+// The rules of an EPTP, in the order in which they are tested: document 02, Ask 6.
+#[derive(Clone, Copy, PartialEq, Eq)]
+pub enum EptpRule {
+    MemoryType = 1,
+    WalkLength,
+    DirtyFlag,
+    ReservedBits,
+    BeyondWidth,
+}
+
+// Why an event is refused: document 01, "Numbered answers", and document 02's 13. An invalid operand and a VM entry that
+// fails carry the rule that the EPTP breaks, where that is the ground.
+#[derive(Clone, Copy, PartialEq, Eq)]
+pub enum Refusal {
+    ContextOutOfRange,
+    TableTooLong,
+    TableNotValid,
+    EventNotValid,
+    UndefinedOpcode,
+    VmExit,
+    GeneralProtection,
+    InvalidOperand(Option<EptpRule>),
+    NoPlace,
+    EntryFailure(Option<EptpRule>),
+    NotCreatable,
+    NoRoom,
+    WrongTally,
+}
+
+// The number of a rule, from 1; 0 where none is broken.
+pub fn number_of_rule(rule: Option<EptpRule>) -> u64
+    ensures { result ≡ rule_number rule }
+{
+    rule.map_or(0, |r| r as u64)
+}
+
+impl Refusal {
+    // The number of the answer.
+    pub fn number(self) -> u64
+        ensures { result ≡ refusal_number self }
+    {
+        match self {
+            Refusal::ContextOutOfRange => 1,
+            Refusal::TableTooLong => 2,
+            Refusal::TableNotValid => 3,
+            Refusal::EventNotValid => 4,
+            Refusal::UndefinedOpcode => 5,
+            Refusal::VmExit => 6,
+            Refusal::GeneralProtection => 7,
+            Refusal::InvalidOperand(_) => 8,
+            Refusal::NoPlace => 9,
+            Refusal::EntryFailure(_) => 10,
+            Refusal::NotCreatable => 11,
+            Refusal::NoRoom => 12,
+            Refusal::WrongTally => 13,
+        }
+    }
+
+    // The number of the rule that goes with it; 0 where the EPTP is not the ground.
+    pub fn rule(self) -> u64
+        ensures { result ≡ refusal_rule self }
+    {
+        match self {
+            Refusal::InvalidOperand(rule) | Refusal::EntryFailure(rule) => number_of_rule(rule),
+            _ => 0,
+        }
+    }
 }
 
 // What a lookup asks for.
@@ -171,6 +232,7 @@ pub enum Address {
 
 // What a step reports: the answer's number, the rule of the EPTP that is broken where that is the ground of 8 or 10
 // (else 0), the context after it, the length of the new table and how many records were dropped.
+// Kept: the answer is a number, which the theorems of whole runs (`RentersApart`) name, as the C interface does.
 #[derive(Clone, Copy)]
 pub struct Step {
     pub answer: u64,

@@ -2,7 +2,7 @@
 #![tactic(auto)]
 
 ghost use Rattle.std.specs.Prelude.{◌≡◌};
-ghost use Rattle.model.specs.Context.{moved, after_reset};
+ghost use Rattle.model.specs.Context.{after_reset};
 ghost use Rattle.model.specs.Scopes.{entered, next_context};
 
 use model::{Context, Entry, Ept, Event, GuestPlace, Place};
@@ -20,25 +20,16 @@ fn place_entered(n: Entry) -> Place
     Place::Guest(GuestPlace { vpid, ept })
 }
 
-// The context at another PCID, CPL and place.
-fn moved_to(c: Context, pcid: u64, cpl: u64, place: Place) -> Context
-    ensures { result ≡ moved c pcid cpl place }
-{
-    Context {
-        capability: c.capability,
-        width: c.width,
-        linear_width: c.linear_width,
-        pcid,
-        cpl,
-        place,
-    }
-}
-
 // The context after a reset: outside, PCID 0, CPL 0; capability and both widths stay.
 pub fn reset(c: Context) -> Context
     ensures { result ≡ after_reset c }
 {
-    moved_to(c, 0, 0, Place::Outside)
+    Context {
+        pcid: 0,
+        cpl: 0,
+        place: Place::Outside,
+        ..c
+    }
 }
 
 // The context after an accepted event.
@@ -46,24 +37,38 @@ pub fn next_context(c: Context, e: Event) -> Context
     ensures { result ≡ next_context c e }
 {
     match e {
-        Event::Entry(n) => moved_to(c, n.pcid, n.cpl, place_entered(n)),
-        Event::Exit(pcid) => moved_to(c, pcid, 0, Place::Root),
-        Event::Vmxon => moved_to(c, c.pcid, c.cpl, Place::Root),
-        Event::Vmxoff => moved_to(c, c.pcid, c.cpl, Place::Outside),
-        Event::NewPcid(n) => {
-            let place = c.place;
-            moved_to(c, n.pcid, n.cpl, place)
-        }
+        Event::Entry(n) => Context {
+            pcid: n.pcid,
+            cpl: n.cpl,
+            place: place_entered(n),
+            ..c
+        },
+        Event::Exit(pcid) => Context {
+            pcid,
+            cpl: 0,
+            place: Place::Root,
+            ..c
+        },
+        Event::Vmxon => Context {
+            place: Place::Root,
+            ..c
+        },
+        Event::Vmxoff => Context {
+            place: Place::Outside,
+            ..c
+        },
+        Event::NewPcid(n) => Context {
+            pcid: n.pcid,
+            cpl: n.cpl,
+            ..c
+        },
+        Event::MovToCr3(pcid) => Context { pcid, ..c },
         Event::Reset => reset(c),
-        Event::Creation(_) => c,
-        Event::Invvpid(_) => c,
-        Event::Invept(_) => c,
-        Event::Invlpg(_) => c,
-        Event::EptViolation(_) => c,
-        Event::Invpcid(_) => c,
-        Event::MovToCr3(pcid) => {
-            let place = c.place;
-            moved_to(c, pcid, c.cpl, place)
-        }
+        Event::Creation(_)
+        | Event::Invvpid(_)
+        | Event::Invept(_)
+        | Event::Invlpg(_)
+        | Event::EptViolation(_)
+        | Event::Invpcid(_) => c,
     }
 }

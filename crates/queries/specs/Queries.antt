@@ -1,5 +1,5 @@
 -- What a query asks of a mapping, as the tests of document 01's scopes.
-use Rattle.std.specs.Prelude.{ℕ, ◌+◌, Bool, true, false, cond, not, ◌&&◌, ◌||◌, List, ◌≡◌, eqb}
+use Rattle.std.specs.Prelude.{ℕ, ◌+◌, Bool, true, false, cond, not, ◌&&◌, ◌||◌, List, Option, Some, None, ◌≡◌, eqb}
 use Rattle.model.specs.declared.Mapping.{Mapping}
 use Rattle.model.specs.declared.Reason.{Reason}
 use Rattle.model.specs.declared.Reason.TheVariants.{WrongPcid, WrongEp4ta, NotCovering, SparedAsGlobal, InScope}
@@ -9,6 +9,8 @@ use Rattle.model.specs.Mappings.{mapping, Held, guest_physical, structure_cache,
 use Rattle.model.specs.Scopes.{Tests}
 use Rattle.model.specs.Reasons.{unless, first_failed}
 use Rattle.queries.specs.declared.Tags.{Tags}
+use Rattle.queries.specs.declared.Pages.{Pages}
+use Rattle.queries.specs.declared.Further.{Further}
 use Rattle.queries.specs.declared.Query.{Query}
 use Rattle.queries.specs.declared.KindsByVpid.{KindsByVpid}
 
@@ -33,33 +35,42 @@ no_tags = touching 0 false false
 unfoldable pub touched : Tags → ℕ → Bool
 touched tags tag = cond (eqb tag tags.tag) tags.same tags.others
 
+-- what is asked holds, or nothing is asked
+abbrev pub is_none_or : {A : Type 0} → Option A → (A → Bool) → Bool
+is_none_or None test = true
+is_none_or (Some a) test = test a
+
+-- nothing is asked further
+abbrev pub nothing_further : Further
+nothing_further = record { pcid = any; global = false; ep4ta = any; page = None; sparing = false }
+
 -- the further tests; a guest-physical mapping is asked for no VPID and no PCID, and a structure cache may be asked
 -- for no page
-unfoldable pub of_pcid : Query → Mapping → Bool
-of_pcid q m = guest_physical m.kind || (touched q.pcid m.pcid || (q.global && global_translation m))
+unfoldable pub of_pcid : Further → Mapping → Bool
+of_pcid f m = guest_physical m.kind || (touched f.pcid m.pcid || (f.global && global_translation m))
 
-unfoldable pub of_ep4ta : Query → Mapping → Bool
-of_ep4ta q m = touched q.ep4ta m.ep4ta
+unfoldable pub of_ep4ta : Further → Mapping → Bool
+of_ep4ta f m = touched f.ep4ta m.ep4ta
 
-unfoldable pub covers_asked : Query → Mapping → Bool
-covers_asked q m =
-    (not q.structures && structure_cache m.kind)
-    || covers m.span m.page (cond (guest_physical m.kind) q.physical q.linear)
+unfoldable pub covers_asked : Pages → Mapping → Bool
+covers_asked p m =
+    (not p.structures && structure_cache m.kind)
+    || covers m.span m.page (cond (guest_physical m.kind) p.physical p.linear)
 
-unfoldable pub at_page : Query → Mapping → Bool
-at_page q m = cond q.covering (covers_asked q m) true
+unfoldable pub at_page : Further → Mapping → Bool
+at_page f m = is_none_or f.page (λ p. covers_asked p m)
 
-unfoldable pub not_spared : Query → Mapping → Bool
-not_spared q m = not (q.sparing && global_translation m)
+unfoldable pub not_spared : Further → Mapping → Bool
+not_spared f m = not (f.sparing && global_translation m)
 
 -- the first that fails, and whether all are passed
-unfoldable pub further_failed : Query → Mapping → Reason
-further_failed q m =
-    unless (of_pcid q m) WrongPcid
-    (unless (of_ep4ta q m) WrongEp4ta (unless (at_page q m) NotCovering (unless (not_spared q m) SparedAsGlobal InScope)))
+unfoldable pub further_failed : Further → Mapping → Reason
+further_failed f m =
+    unless (of_pcid f m) WrongPcid
+    (unless (of_ep4ta f m) WrongEp4ta (unless (at_page f m) NotCovering (unless (not_spared f m) SparedAsGlobal InScope)))
 
-unfoldable pub further_passed : Query → Mapping → Bool
-further_passed q m = of_pcid q m && of_ep4ta q m && at_page q m && not_spared q m
+unfoldable pub further_passed : Further → Mapping → Bool
+further_passed f m = of_pcid f m && of_ep4ta f m && at_page f m && not_spared f m
 
 -- all tests of a query
 unfoldable pub query_tests : Query → Mapping → Tests
@@ -67,10 +78,10 @@ query_tests q m =
     record {
       kind = bit m.kind q.kinds;
       vpid = guest_physical m.kind || touched q.vpid m.vpid;
-      pcid = cond q.further (of_pcid q m) true;
-      ep4ta = cond q.further (of_ep4ta q m) true;
-      page = cond q.further (at_page q m) true;
-      global = cond q.further (not_spared q m) true;
+      pcid = is_none_or q.further (λ f. of_pcid f m);
+      ep4ta = is_none_or q.further (λ f. of_ep4ta f m);
+      page = is_none_or q.further (λ f. at_page f m);
+      global = is_none_or q.further (λ f. not_spared f m);
     }
 
 -- of every mapping of a known kind the query's first failed test is that of the given tests

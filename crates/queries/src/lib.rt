@@ -1,14 +1,14 @@
-// What an event asks of each record of a table, as data that is worked out once, and whether a record passes.
-// A record is handed in as the part of the table that starts at its kind byte, and only the fields that are
-// asked for are read.
+// What an event asks of each record of a table, as data that is worked out once, and whether a record passes. Only the
+// fields that are asked for are read.
 #![tactic(auto)]
 
 ghost use Rattle.std.specs.Prelude.{◌≡◌};
-ghost use Rattle.model.specs.Mappings.{mapping, Held};
+ghost use Rattle.model.specs.Mappings.{mapping};
 ghost use Rattle.model.specs.Scopes.{passed};
 ghost use Rattle.model.specs.Reasons.{first_failed};
-ghost use Rattle.queries.specs.Queries.{touching, any, only, all_but, no_tags, touched, of_pcid, of_ep4ta, covers_asked, at_page, not_spared, further_failed, further_passed, query_tests, guest_physical_of, kinds_where, kinds_with, of_kind_and_vpid, Splits};
+ghost use Rattle.queries.specs.Queries.{touching, any, only, all_but, no_tags, touched, nothing_further, of_pcid, of_ep4ta, covers_asked, at_page, not_spared, further_failed, further_passed, query_tests, guest_physical_of, kinds_where, kinds_with, of_kind_and_vpid, Splits};
 
+use mappings::Record;
 use model::Reason;
 
 // The tags that are touched, of VPIDs, PCIDs or EP4TAs: whether one tag is, and whether all others are.
@@ -19,75 +19,57 @@ pub struct Tags {
     pub others: bool,
 }
 
-// The tests that an event puts to a record.
-#[derive(Clone, Copy)]
-pub struct Query {
-    // the kinds that are touched: bit k is set for kind k
-    pub kinds: u64,
-    // the VPIDs of linear and combined mappings
-    pub vpid: Tags,
-    // whether anything more is asked
-    pub further: bool,
-    // the PCIDs of linear and combined mappings; with `global` a global translation has any
-    pub pcid: Tags,
-    pub global: bool,
-    pub ep4ta: Tags,
-    // whether a page has to be covered, by structure caches too; the page of guest-physical mappings, and of others
-    pub covering: bool,
-    pub structures: bool,
-    pub physical: u64,
-    pub linear: u64,
-    // whether global translations are spared
-    pub sparing: bool,
-}
+impl Tags {
+    // Tags by their parts.
+    fn new(tag: u64, same: bool, others: bool) -> Self
+        ensures { result ≡ touching tag same others }
+    {
+        Tags { tag, same, others }
+    }
 
-// Tags by their parts.
-fn touching(tag: u64, same: bool, others: bool) -> Tags
-    ensures { result ≡ touching tag same others }
-{
-    Tags { tag, same, others }
-}
+    // Any tag.
+    pub fn any() -> Self
+        ensures { result ≡ any }
+    {
+        Tags::new(0, true, true)
+    }
 
-// Any tag.
-pub fn any() -> Tags
-    ensures { result ≡ any }
-{
-    touching(0, true, true)
-}
+    // One tag alone.
+    pub fn only(tag: u64) -> Self
+        ensures { result ≡ only tag }
+    {
+        Tags::new(tag, true, false)
+    }
 
-// One tag alone.
-pub fn only(tag: u64) -> Tags
-    ensures { result ≡ only tag }
-{
-    touching(tag, true, false)
-}
+    // Any tag but one.
+    pub fn all_but(tag: u64) -> Self
+        ensures { result ≡ all_but tag }
+    {
+        Tags::new(tag, false, true)
+    }
 
-// Any tag but one.
-pub fn all_but(tag: u64) -> Tags
-    ensures { result ≡ all_but tag }
-{
-    touching(tag, false, true)
-}
+    // No tag.
+    pub fn none() -> Self
+        ensures { result ≡ no_tags }
+    {
+        Tags::new(0, false, false)
+    }
 
-// No tag.
-pub fn no_tags() -> Tags
-    ensures { result ≡ no_tags }
-{
-    touching(0, false, false)
-}
-
-// The tag is touched.
-fn is_touched(tags: Tags, tag: u64) -> bool
-    ensures { result ≡ touched tags tag }
-{
-    if tag == tags.tag {
-        tags.same
-    } else {
-        tags.others
+    // The tag is touched.
+    #[tactic(auto, unfolding(crate::specs::Queries::touched))]
+    fn is_touched(self, tag: u64) -> bool
+        ensures { result ≡ touched self tag }
+    {
+        if tag == self.tag {
+            self.same
+        } else {
+            self.others
+        }
     }
 }
 
 // The guest-physical kinds of a set of kinds.
+#[tactic(auto, unfolding(crate::specs::Queries::guest_physical_of))]
 fn guest_physical_of(kinds: u64) -> u64
     ensures { result ≡ guest_physical_of kinds }
 {
@@ -98,6 +80,7 @@ fn guest_physical_of(kinds: u64) -> u64
 
 // Those of the kinds that are touched beside a tag that is touched or not: a guest-physical mapping is asked for no VPID
 // and no PCID.
+#[tactic(auto, unfolding(crate::specs::Queries::kinds_where))]
 fn kinds_where(touched: bool, kinds: u64) -> u64
     ensures { result ≡ kinds_where touched kinds }
 {
@@ -105,136 +88,6 @@ fn kinds_where(touched: bool, kinds: u64) -> u64
         return kinds;
     }
     guest_physical_of(kinds)
-}
-
-// The record's kind is touched.
-fn is_of_kind(q: Query, part: &[u8]) -> bool
-    requires { Held part.now }
-    ensures { result ≡ (query_tests q (mapping part.now)).kind }
-{
-    kinds::is_among(q.kinds, mappings::kind(part))
-}
-
-// Its VPID is touched; a guest-physical mapping has none to ask for.
-fn is_of_vpid(q: Query, part: &[u8]) -> bool
-    requires { Held part.now }
-    ensures { result ≡ (query_tests q (mapping part.now)).vpid }
-{
-    let tags = q.vpid;
-    kinds::is_guest_physical(mappings::kind(part)) | is_touched(tags, mappings::vpid_bytes(part))
-}
-
-// Its PCID is touched; a guest-physical mapping has none to ask for. The kind is asked by a set, since a branch on it
-// would be mispredicted.
-fn is_of_pcid(q: Query, part: &[u8]) -> bool
-    requires { Held part.now }
-    ensures { result ≡ of_pcid q (mapping part.now) }
-{
-    let tags = q.pcid;
-    let own = is_touched(tags, mappings::pcid(part));
-    let kinds = kinds_where(
-        own | (q.global & mappings::is_global_translation(part)),
-        kinds::ALL,
-    );
-    kinds::is_among(kinds, mappings::kind(part))
-}
-
-// Its EP4TA is touched.
-fn is_of_ep4ta(q: Query, part: &[u8]) -> bool
-    requires { Held part.now }
-    ensures { result ≡ of_ep4ta q (mapping part.now) }
-{
-    let tags = q.ep4ta;
-    is_touched(tags, mappings::ep4ta(part))
-}
-
-// It covers the page that is asked for; a structure cache may be asked for none.
-fn is_covering_asked(q: Query, part: &[u8]) -> bool
-    requires { Held part.now }
-    ensures { result ≡ covers_asked q (mapping part.now) }
-{
-    let kind = mappings::kind(part);
-    let structures = q.structures;
-    if !structures & kinds::is_structure_cache(kind) {
-        return true;
-    }
-    if kinds::is_guest_physical(kind) {
-        return mappings::is_covering(part, q.physical);
-    }
-    mappings::is_covering(part, q.linear)
-}
-
-// It covers the page, where one is asked for.
-fn is_at_page(q: Query, part: &[u8]) -> bool
-    requires { Held part.now }
-    ensures { result ≡ at_page q (mapping part.now) }
-{
-    if q.covering {
-        return is_covering_asked(q, part);
-    }
-    true
-}
-
-// It is not spared as global.
-fn is_not_spared(q: Query, part: &[u8]) -> bool
-    requires { Held part.now }
-    ensures { result ≡ not_spared q (mapping part.now) }
-{
-    !(q.sparing & mappings::is_global_translation(part))
-}
-
-// The first of the further tests that the record fails, or that it passes all.
-fn first_further(q: Query, part: &[u8]) -> Reason
-    requires { Held part.now }
-    ensures { result ≡ further_failed q (mapping part.now) }
-{
-    if !is_of_pcid(q, part) {
-        return Reason::WrongPcid;
-    }
-    if !is_of_ep4ta(q, part) {
-        return Reason::WrongEp4ta;
-    }
-    if !is_at_page(q, part) {
-        return Reason::NotCovering;
-    }
-    if !is_not_spared(q, part) {
-        return Reason::SparedAsGlobal;
-    }
-    Reason::InScope
-}
-
-// The first test that the record fails, or that it passes all.
-pub fn first_failed(q: Query, part: &[u8]) -> Reason
-    requires { Held part.now }
-    ensures { result ≡ first_failed (query_tests q (mapping part.now)) }
-{
-    if !is_of_kind(q, part) {
-        return Reason::WrongKind;
-    }
-    if !is_of_vpid(q, part) {
-        return Reason::WrongVpid;
-    }
-    if q.further {
-        return first_further(q, part);
-    }
-    Reason::InScope
-}
-
-// The record passes the further tests. Where one EP4TA is asked for, most records fail that test: so it comes first.
-fn is_passing_further(q: Query, part: &[u8]) -> bool
-    requires { Held part.now }
-    ensures { result ≡ further_passed q (mapping part.now) }
-{
-    if !is_of_ep4ta(q, part) {
-        return false;
-    }
-    if !is_of_pcid(q, part) {
-        return false;
-    }
-    if !is_at_page(q, part) {
-        return false;
-    }
-    is_not_spared(q, part)
 }
 
 // The kinds that are touched beside one VPID, and beside any other; bit k for kind k.
@@ -245,46 +98,225 @@ pub struct KindsByVpid {
     pub others: u64,
 }
 
-// The kinds of a query by VPID, which `is_passing` takes.
-pub fn kinds_by_vpid(q: Query) -> KindsByVpid
-    ensures { Splits q result }
-{
-    let tags = q.vpid;
-    KindsByVpid {
-        vpid: tags.tag,
-        same: kinds_where(tags.same, q.kinds),
-        others: kinds_where(tags.others, q.kinds),
+impl KindsByVpid {
+    // The kinds beside a VPID.
+    #[tactic(auto, unfolding(crate::specs::Queries::kinds_with))]
+    fn with(self, vpid: u64) -> u64
+        ensures { result ≡ kinds_with self vpid }
+    {
+        if vpid == self.vpid {
+            self.same
+        } else {
+            self.others
+        }
+    }
+
+    // The record's kind is touched beside its VPID. A table mixes its records: so the two are one test, since
+    // a branch for each would be mispredicted.
+    #[tactic(auto, using(crate::proofs::Laws::Splitting::kind_below), unfolding(crate::specs::Queries::of_kind_and_vpid))]
+    pub fn is_of_kind_and_vpid(self, part: Record) -> bool
+        ensures { result ≡ of_kind_and_vpid self part.entry.bytes.now }
+    {
+        kinds::is_among(self.with(part.vpid_bytes()), part.kind())
     }
 }
 
-// The kinds beside a VPID.
-fn kinds_with(s: KindsByVpid, vpid: u64) -> u64
-    ensures { result ≡ kinds_with s vpid }
-{
-    if vpid == s.vpid { s.same } else { s.others }
+// The page that has to be covered.
+#[derive(Clone, Copy)]
+pub struct Pages {
+    // of guest-physical mappings, and of others
+    pub physical: u64,
+    pub linear: u64,
+    // whether structure caches too have to cover it
+    pub structures: bool,
 }
 
-// The record's kind is touched beside its VPID. A table mixes its records: so the two are one test, since a branch for
-// each would be mispredicted.
-fn is_of_kind_and_vpid(s: KindsByVpid, part: &[u8]) -> bool
-    requires { Held part.now }
-    ensures { result ≡ of_kind_and_vpid s part.now }
-{
-    let kinds = kinds_with(s, mappings::vpid_bytes(part));
-    kinds::is_among(kinds, mappings::kind(part))
+impl Pages {
+    // The record covers the page; a structure cache may be asked for none.
+    #[tactic(auto, unfolding(crate::specs::Queries::covers_asked))]
+    fn is_covered(self, part: Record) -> bool
+        ensures { result ≡ covers_asked self (mapping part.entry.bytes.now) }
+    {
+        let kind = part.kind();
+        if !self.structures & kinds::is_structure_cache(kind) {
+            return true;
+        }
+        if kinds::is_guest_physical(kind) {
+            return part.is_covering(self.physical);
+        }
+        part.is_covering(self.linear)
+    }
 }
 
-// The record passes every test. The query's kinds by VPID are worked out once, before all records.
-pub fn is_passing(q: Query, s: KindsByVpid, part: &[u8]) -> bool
-    requires held { Held part.now }
-    requires splits { Splits q s }
-    ensures { result ≡ passed (query_tests q (mapping part.now)) }
-{
-    if !is_of_kind_and_vpid(s, part) {
-        return false;
+// The tests that an event puts to a record whose kind and VPID are touched.
+#[derive(Clone, Copy)]
+pub struct Further {
+    // the PCIDs of linear and combined mappings; with `global` a global translation has any
+    pub pcid: Tags,
+    pub global: bool,
+    pub ep4ta: Tags,
+    // the page that has to be covered, if any
+    pub page: Option<Pages>,
+    // whether global translations are spared
+    pub sparing: bool,
+}
+
+impl Further {
+    // Nothing is asked.
+    pub fn nothing() -> Self
+        ensures { result ≡ nothing_further }
+    {
+        Further {
+            pcid: Tags::any(),
+            global: false,
+            ep4ta: Tags::any(),
+            page: None,
+            sparing: false,
+        }
     }
-    if q.further {
-        return is_passing_further(q, part);
+
+    // The record's PCID is touched; a guest-physical mapping has none to ask for. The kind is asked by a set, since a
+    // branch on it would be mispredicted.
+    #[tactic(auto, using(crate::proofs::Laws::Splitting::kind_below, crate::proofs::Laws::Splitting::known_kind, crate::proofs::Laws::Splitting::bit_where_all), unfolding(crate::specs::Queries::of_pcid))]
+    fn is_of_pcid(self, part: Record) -> bool
+        ensures { result ≡ of_pcid self (mapping part.entry.bytes.now) }
+    {
+        let own = self.pcid.is_touched(part.pcid());
+        let kinds = kinds_where(
+            own | (self.global & part.is_global_translation()),
+            kinds::ALL,
+        );
+        kinds::is_among(kinds, part.kind())
     }
-    true
+
+    // Its EP4TA is touched.
+    #[tactic(auto, unfolding(crate::specs::Queries::of_ep4ta))]
+    fn is_of_ep4ta(self, part: Record) -> bool
+        ensures { result ≡ of_ep4ta self (mapping part.entry.bytes.now) }
+    {
+        self.ep4ta.is_touched(part.ep4ta())
+    }
+
+    // It covers the page, where one is asked for.
+    #[tactic(auto, unfolding(crate::specs::Queries::at_page))]
+    fn is_at_page(self, part: Record) -> bool
+        ensures { result ≡ at_page self (mapping part.entry.bytes.now) }
+    {
+        match self.page {
+            Some(page) => page.is_covered(part),
+            None => true,
+        }
+    }
+
+    // It is not spared as global.
+    #[tactic(auto, unfolding(crate::specs::Queries::not_spared))]
+    fn is_not_spared(self, part: Record) -> bool
+        ensures { result ≡ not_spared self (mapping part.entry.bytes.now) }
+    {
+        !(self.sparing & part.is_global_translation())
+    }
+
+    // The first of these tests that the record fails, or that it passes all.
+    #[tactic(auto, unfolding(crate::specs::Queries::further_failed))]
+    fn first_failed(self, part: Record) -> Reason
+        ensures { result ≡ further_failed self (mapping part.entry.bytes.now) }
+    {
+        if !self.is_of_pcid(part) {
+            return Reason::WrongPcid;
+        }
+        if !self.is_of_ep4ta(part) {
+            return Reason::WrongEp4ta;
+        }
+        if !self.is_at_page(part) {
+            return Reason::NotCovering;
+        }
+        if !self.is_not_spared(part) {
+            return Reason::SparedAsGlobal;
+        }
+        Reason::InScope
+    }
+
+    // The record passes these tests. Where one EP4TA is asked for, most records fail that test: so it comes first.
+    #[tactic(auto, unfolding(crate::specs::Queries::further_passed))]
+    fn is_passing(self, part: Record) -> bool
+        ensures { result ≡ further_passed self (mapping part.entry.bytes.now) }
+    {
+        self.is_of_ep4ta(part)
+            && self.is_of_pcid(part)
+            && self.is_at_page(part)
+            && self.is_not_spared(part)
+    }
+}
+
+// The tests that an event puts to a record.
+#[derive(Clone, Copy)]
+pub struct Query {
+    // the kinds that are touched: bit k is set for kind k
+    pub kinds: u64,
+    // the VPIDs of linear and combined mappings
+    pub vpid: Tags,
+    // what more is asked, if anything
+    pub further: Option<Further>,
+}
+
+impl Query {
+    // The record's kind is touched.
+    #[tactic(auto, using(crate::proofs::Laws::Splitting::kind_below), unfolding(crate::specs::Queries::query_tests))]
+    fn is_of_kind(self, part: Record) -> bool
+        ensures { result ≡ (query_tests self (mapping part.entry.bytes.now)).kind }
+    {
+        kinds::is_among(self.kinds, part.kind())
+    }
+
+    // Its VPID is touched; a guest-physical mapping has none to ask for.
+    #[tactic(auto, unfolding(crate::specs::Queries::query_tests))]
+    fn is_of_vpid(self, part: Record) -> bool
+        ensures { result ≡ (query_tests self (mapping part.entry.bytes.now)).vpid }
+    {
+        kinds::is_guest_physical(part.kind()) | self.vpid.is_touched(part.vpid_bytes())
+    }
+
+    // The first test that the record fails, or that it passes all.
+    #[tactic(auto, unfolding(crate::specs::Queries::query_tests, crate::specs::Queries::further_failed, model::specs::Reasons::first_failed))]
+    pub fn first_failed(self, part: Record) -> Reason
+        ensures { result ≡ first_failed (query_tests self (mapping part.entry.bytes.now)) }
+    {
+        if !self.is_of_kind(part) {
+            return Reason::WrongKind;
+        }
+        if !self.is_of_vpid(part) {
+            return Reason::WrongVpid;
+        }
+        match self.further {
+            Some(further) => further.first_failed(part),
+            None => Reason::InScope,
+        }
+    }
+
+    // The kinds of the query by VPID, which `is_passing` takes.
+    #[tactic(auto, using(crate::proofs::Laws::Splitting::splits))]
+    pub fn kinds_by_vpid(self) -> KindsByVpid
+        ensures { Splits self result }
+    {
+        KindsByVpid {
+            vpid: self.vpid.tag,
+            same: kinds_where(self.vpid.same, self.kinds),
+            others: kinds_where(self.vpid.others, self.kinds),
+        }
+    }
+
+    // The record passes every test. The query's kinds by VPID are worked out once, before all records.
+    #[tactic(auto, using(crate::proofs::Laws::Splitting::split), unfolding(crate::specs::Queries::query_tests, crate::specs::Queries::further_passed))]
+    pub fn is_passing(self, kinds: KindsByVpid, part: Record) -> bool
+        requires { Splits self kinds }
+        ensures { result ≡ passed (query_tests self (mapping part.entry.bytes.now)) }
+    {
+        if !kinds.is_of_kind_and_vpid(part) {
+            return false;
+        }
+        match self.further {
+            Some(further) => further.is_passing(part),
+            None => true,
+        }
+    }
 }

@@ -1,10 +1,9 @@
 -- Document 02, Ask 3: what is kept of a log between two fragments.
-use Rattle.std.specs.Prelude.{ℕ, min, ◌+◌, ◌-◌, ◌^◌, Bool, true, false, cond, ◌||◌, List, ◌++◌, ◌≡◌, leb, ltb, length, take}
+use Rattle.std.specs.Prelude.{ℕ, min, ◌+◌, ◌-◌, ◌^◌, Bool, true, false, cond, ◌||◌, List, ◌++◌, Option, ◌≡◌, is_some, leb, ltb, length, take, unwrap_or}
 use Rattle.model.specs.Buffers.{put}
 use Rattle.model.specs.Layouts.{kind_of, length_of}
 use Rattle.logs.specs.Logs.{known_at}
 use Rattle.readers.specs.declared.Reader.{Reader}
-use Rattle.readers.specs.declared.Start.{Start}
 use Rattle.readers.specs.declared.Gathered.{Gathered}
 
 -- "At most 24 bytes of an unfinished event are held between calls."
@@ -48,10 +47,10 @@ ended r = record { line = r.line; ignoring = true; length = r.length; held = r.h
 abbrev pub emptied : Reader → Reader
 emptied r = record { line = r.line; ignoring = false; length = 0; held = r.held }
 
--- what is told of the first event of some bytes
-pub record First (width : ℕ) (bytes : List ℕ) (r : Start) : Type 0 where
-  pub size : r.size ≡ first_size width bytes
-  pub known : r.known ≡ known_at width (kind_of bytes)
+-- what is told of the first event of some bytes: how many bytes it has, where its kind is known; else it has one
+pub record First (width : ℕ) (bytes : List ℕ) (r : Option ℕ) : Type 0 where
+  pub size : unwrap_or r 1 ≡ first_size width bytes
+  pub known : is_some r ≡ known_at width (kind_of bytes)
 
 -- the bytes held and those of a fragment behind them, of which 25 are enough to finish any event
 pub record Together (r : Reader) (x : List ℕ) (all : Gathered) : Type 0 where

@@ -1,11 +1,12 @@
 // What is kept of a log between two of its fragments: document 02, Ask 3.
 #![tactic(auto)]
 
-ghost use Rattle.std.specs.Prelude.{◌≡◌, ◌+◌, ◌≤◌, length, take};
-ghost use Rattle.readers.specs.Readers.{First, complete, counts_as_ignoring, next_line, holding, read_on, ended, emptied, Together};
+ghost use Rattle.std.specs.Prelude.{◌≡◌, ◌+◌, ◌≤◌, length};
+ghost use Rattle.readers.specs.Readers.{First, complete, counts_as_ignoring, holding, read_on, ended, emptied, Together};
 
 // The number of the last event that was reported, 0 at the start; whether later fragments are ignored; and the bytes of
 // an unfinished event, the first so many of those held.
+// Kept: the bytes are an array with a length, since the library takes no heap and the struct of the C interface has these fields.
 #[derive(Clone, Copy)]
 pub struct Reader {
     pub line: u64,
@@ -14,142 +15,100 @@ pub struct Reader {
     pub held: [u8; 24],
 }
 
-// The first event of some bytes: how many bytes it has, and whether its kind is known.
-#[derive(Clone, Copy)]
-pub struct Start {
-    pub size: usize,
-    pub known: bool,
-}
-
-// The bytes held and those of a fragment behind them, the first 25 at most, and how many these are.
+// The bytes held and those of a fragment after them, the first 25 at most, and how many these are.
 #[derive(Clone, Copy)]
 pub struct Gathered {
     pub bytes: [u8; 25],
     pub length: usize,
 }
 
-// The first event of some bytes at a linear width: as many bytes as its kind says, or one where the kind is unknown or
-// there is no byte.
-pub fn first_of(width: u64, bytes: &[u8]) -> Start
+// How many bytes the first event of some bytes has at a linear width, as its kind says; `None` where the kind is unknown or
+// there is no byte. Such an event has one byte.
+#[tactic(auto, using(crate::proofs::Laws::Readers::first_known))]
+pub fn first_of(width: u64, bytes: &[u8]) -> Option<usize>
     ensures { First width bytes.now result }
 {
-    let told = logs::length_of_event(width, bytes);
-    if told == 0 {
-        return Start {
-            size: 1,
-            known: false,
-        };
-    }
-    Start {
-        size: told,
-        known: true,
+    match logs::length_of_event(width, bytes) {
+        0 => None,
+        size => Some(size),
     }
 }
 
-// The first so many bytes finish an event, an unknown kind byte among these.
-fn is_complete(width: u64, bytes: &[u8], size: usize) -> bool
-    requires { size ≤ length bytes.now }
-    ensures { result ≡ complete width (take size bytes.now) }
+// The bytes finish an event, an unknown kind byte among these.
+#[tactic(auto, using(std::proofs::lemmas::Bool::Decides::nat_tests), unfolding(crate::specs::Readers::complete))]
+fn is_complete(width: u64, bytes: &[u8]) -> bool
+    ensures { result ≡ complete width bytes.now }
 {
-    let first = first_of(width, &bytes[..size]);
-    first.size <= size
+    first_of(width, bytes).unwrap_or(1) <= bytes.len()
 }
 
-// The reader takes fragments whole and ignores them: its flag is set, it holds more than 24 bytes, or the bytes that it
-// holds begin no known event or complete one.
-pub fn is_ignoring(width: u64, r: Reader) -> bool
-    ensures { result ≡ counts_as_ignoring width r }
-{
-    if r.ignoring {
-        return true;
+impl Reader {
+    // The reader takes fragments whole and ignores them: its flag is set, it holds more than 24 bytes, or the bytes that it
+    // holds begin no known event or complete one.
+    #[tactic(auto, using(std::proofs::lemmas::Bool::Decides::nat_tests), unfolding(crate::specs::Readers::held_bytes, crate::specs::Readers::counts_as_ignoring))]
+    pub fn is_ignoring(self, width: u64) -> bool
+        ensures { result ≡ counts_as_ignoring width self }
+    {
+        self.ignoring || 24 < self.length || is_complete(width, &self.held[..self.length])
     }
-    if 24 < r.length {
-        return true;
+
+    // The bytes held, and those of a fragment after them.
+    pub fn gather(self, fragment: &[u8]) -> Gathered
+        requires { self.length ≤ 24 }
+        ensures { Together self fragment.now result }
+    {
+        let mut bytes = [0u8; 25];
+        buffers::put(&self.held, &mut bytes, 0);
+        let more = fragment.len().min(25 - self.length);
+        let length = buffers::put(&fragment[..more], &mut bytes, self.length);
+        Gathered { bytes, length }
     }
-    let held = r.held;
-    is_complete(width, &held, r.length)
-}
 
-// The bytes held, and those of a fragment behind them.
-pub fn gather(r: Reader, fragment: &[u8]) -> Gathered
-    requires { r.length ≤ 24 }
-    ensures { Together r fragment.now result }
-{
-    let mut bytes = [0u8; 25];
-    let held = r.held;
-    buffers::put(&held, &mut bytes, 0);
-    let room = 25 - r.length;
-    let mut more = fragment.len();
-    if room < more {
-        more = room;
+    // Holds the bytes of a fragment after those held.
+    pub fn hold(self, fragment: &[u8]) -> Reader
+        requires { self.length + length fragment.now ≤ 24 }
+        ensures { result ≡ holding self fragment.now }
+    {
+        let mut held = self.held;
+        let length = buffers::put(fragment, &mut held, self.length);
+        Reader {
+            length,
+            held,
+            ..self
+        }
     }
-    let length = buffers::put(&fragment[..more], &mut bytes, r.length);
-    Gathered { bytes, length }
-}
 
-// Holds the bytes of a fragment behind those held.
-pub fn hold(r: Reader, fragment: &[u8]) -> Reader
-    requires { r.length + length fragment.now ≤ 24 }
-    ensures { result ≡ holding r fragment.now }
-{
-    let mut held = r.held;
-    let length = buffers::put(fragment, &mut held, r.length);
-    Reader {
-        line: r.line,
-        ignoring: r.ignoring,
-        length,
-        held,
+    // The reader after an event that is reported: one more line, as far as 2^64 - 1, and nothing held.
+    #[tactic(auto, unfolding(crate::specs::Readers::next_line))]
+    pub fn report(self, ignoring: bool) -> Reader
+        ensures { result ≡ read_on self ignoring }
+    {
+        Reader {
+            line: self.line.saturating_add(1),
+            ignoring,
+            length: 0,
+            ..self
+        }
     }
-}
 
-// The last number of an event.
-const LAST_LINE: u64 = 0xFFFF_FFFF_FFFF_FFFF;
-
-// The number of the next event. It stops at 2^64 - 1.
-fn next_line(line: u64) -> u64
-    ensures { result ≡ next_line line }
-{
-    if line == LAST_LINE {
-        return line;
+    // The reader after a finish call that reports nothing: the ignoring begins.
+    pub fn end(self) -> Reader
+        ensures { result ≡ ended self }
+    {
+        Reader {
+            ignoring: true,
+            ..self
+        }
     }
-    line + 1
-}
 
-// The reader after an event that is reported: one more line, and nothing held.
-pub fn report(r: Reader, ignoring: bool) -> Reader
-    ensures { result ≡ read_on r ignoring }
-{
-    let held = r.held;
-    Reader {
-        line: next_line(r.line),
-        ignoring,
-        length: 0,
-        held,
-    }
-}
-
-// The reader after a finish call that reports nothing: the ignoring begins.
-pub fn end(r: Reader) -> Reader
-    ensures { result ≡ ended r }
-{
-    let held = r.held;
-    Reader {
-        line: r.line,
-        ignoring: true,
-        length: r.length,
-        held,
-    }
-}
-
-// A reset of the reader: it holds nothing and does not ignore. The line number stays.
-pub fn reset(r: Reader) -> Reader
-    ensures { result ≡ emptied r }
-{
-    let held = r.held;
-    Reader {
-        line: r.line,
-        ignoring: false,
-        length: 0,
-        held,
+    // A reset of the reader: it holds nothing and does not ignore. The line number stays.
+    pub fn reset(self) -> Reader
+        ensures { result ≡ emptied self }
+    {
+        Reader {
+            ignoring: false,
+            length: 0,
+            ..self
+        }
     }
 }

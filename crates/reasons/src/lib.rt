@@ -2,29 +2,45 @@
 #![tactic(auto)]
 
 ghost use Rattle.std.specs.Prelude.{◌≡◌};
-ghost use Rattle.model.specs.Reasons.{explanation, reason_number, explanation_number, explanation_answer, explanation_rule};
+ghost use Rattle.model.specs.Reasons.{explained, explanation, reason_number, explanation_number, explanation_answer, explanation_rule};
+ghost use Rattle.reasons.specs.Told.{told};
 
-use model::{Context, EventReading, Explanation, Reason};
+use mappings::Record;
+use model::{Context, Reason, Refusal};
+
+// An explanation in the papers' numbers: a refusal has its answer and the rule of the EPTP that goes with it.
+// Kept: `answer` and `rule` promise of any two numbers.
+#[derive(Clone, Copy)]
+pub enum Explanation {
+    Refused(u64, u64),
+    Accepted(Reason),
+}
+
+impl From<Result<Reason, Refusal>> for Explanation {
+    ghost from_gives = { λ x r. told r ≡ explained x };
+
+    fn from(x: Result<Reason, Refusal>) -> Explanation {
+        match x {
+            Ok(reason) => Explanation::Accepted(reason),
+            Err(why) => Explanation::Refused(why.number(), why.rule()),
+        }
+    }
+}
 
 // Why the event drops the record in the bytes or leaves it, judged in the context. The step's refusal goes
 // first; bytes that are not exactly one valid record are refused with 3.
-pub fn explain(c: Context, bytes: &[u8], event: &[u8]) -> Explanation
-    ensures { result ≡ explanation c bytes.now event.now }
+pub fn explain(c: Context, bytes: &[u8], event: &[u8]) -> Result<Reason, Refusal>
+    ensures { explained result ≡ explanation c bytes.now event.now }
 {
     if !contexts::is_in_range(c) {
-        return Explanation::Refused(1, 0);
+        return Err(Refusal::ContextOutOfRange);
     }
     if !tables::is_one_record(c.linear_width, bytes) {
-        return Explanation::Refused(3, 0);
+        return Err(Refusal::TableNotValid);
     }
-    let EventReading::Read(e) = events::read_event(c.linear_width, event) else {
-        return Explanation::Refused(4, 0);
-    };
-    let answer = answers::answer_to_event(c, e);
-    if answer != 0 {
-        return Explanation::Refused(answer, answers::rule_with_answer(c, e, answer));
-    }
-    Explanation::Accepted(scopes::reason(c, e, bytes))
+    let e = events::read_event(c.linear_width, event).ok_or(Refusal::EventNotValid)?;
+    answers::check_event(c, e)?;
+    Ok(scopes::reason(c, e, Record { bytes }))
 }
 
 // The number of a reason, from 2 in the order in which they are asked.
@@ -46,7 +62,7 @@ fn reason_number(r: Reason) -> u64
 
 // The number of an explanation: 1 of a refusal, else that of its reason.
 pub fn number(x: Explanation) -> u64
-    ensures { result ≡ explanation_number x }
+    ensures { result ≡ explanation_number (told x) }
 {
     match x {
         Explanation::Refused(_, _) => 1,
@@ -56,7 +72,7 @@ pub fn number(x: Explanation) -> u64
 
 // The answer that a refusal carries, and 0 with any reason.
 pub fn answer(x: Explanation) -> u64
-    ensures { result ≡ explanation_answer x }
+    ensures { result ≡ explanation_answer (told x) }
 {
     match x {
         Explanation::Refused(number, _) => number,
@@ -66,7 +82,7 @@ pub fn answer(x: Explanation) -> u64
 
 // The rule of the EPTP that a refusal carries, and 0 with any reason.
 pub fn rule(x: Explanation) -> u64
-    ensures { result ≡ explanation_rule x }
+    ensures { result ≡ explanation_rule (told x) }
 {
     match x {
         Explanation::Refused(_, found) => found,

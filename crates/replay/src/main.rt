@@ -2,27 +2,11 @@
 #![tactic(auto)]
 
 ghost use Rattle.std.specs.Prelude.{◌≤◌, length};
-ghost use Rattle.std.specs.Io.{ReadsAtMost};
 ghost use Rattle.lines.specs.Text.{line_limit};
 
-use std::io;
-use std::io::{ErrorKind, Read};
+use std::io::ErrorKind;
 use std::process::ExitCode;
-
-// Reads to the front of the buffer, until the input ends or the buffer is full.
-fn read_log(input: &mut impl Read, log: &mut [u8]) -> io::Result<usize>
-    ensures { ReadsAtMost result log.new }
-{
-    let mut size = 0;
-    while size < log.len() {
-        let more = input.read(&mut log[size..])?;
-        if more == 0 {
-            return Ok(size);
-        }
-        size += more;
-    }
-    Ok(size)
-}
+use std::{fmt, io};
 
 // Writes the text of a log piece by piece, until a piece is empty or a write fails.
 fn write_text(
@@ -35,63 +19,83 @@ fn write_text(
     requires { line_limit ≤ length text.old }
 {
     let mut progress = texts::start();
+    // Kept: it goes on until a piece is empty.
     loop {
         let piece = texts::write_next(progress, log, first, second, text);
-        let size = piece.length;
-        if size == 0 {
+        if piece.length == 0 {
             return Ok(());
         }
-        rt.write_all(&text[..size])?;
+        rt.write_all(&text[..piece.length])?;
         progress = piece.progress;
     }
 }
 
-// Where the run ends: the position in the log, from 0, and the number of the event there, from 1.
+// Why a run ends before its log does.
+#[derive(Clone, Copy)]
+enum Fault {
+    UnknownKind,
+    CutRecord,
+}
+
+impl fmt::Display for Fault {
+    fn fmt<W: fmt::Write>(&self, f: &mut fmt::Formatter<W>) -> fmt::Result {
+        match self {
+            Fault::UnknownKind => write!(f, "the kind is unknown"),
+            Fault::CutRecord => write!(f, "the record is cut"),
+        }
+    }
+}
+
+// Where a run ends before its log does: the number of the event there, from 1, the byte at which it starts, from 0, and
+// why.
 #[derive(Clone, Copy)]
 struct End {
-    at: usize,
     event: usize,
+    at: usize,
+    fault: Fault,
 }
 
-// The run ends at the first event whose kind is unknown or whose record is cut, or with the log.
-fn end_of_run(log: &[u8]) -> End {
-    let mut at = 0;
+impl fmt::Display for End {
+    fn fmt<W: fmt::Write>(&self, f: &mut fmt::Formatter<W>) -> fmt::Result {
+        let End { event, at, fault } = *self;
+        write!(f, "the run ended at event {event}, byte {at}: {fault}")
+    }
+}
+
+// The run ends at the first event whose kind is unknown or whose record is cut; `None` where it ends with the log.
+fn end_of_run(log: &[u8]) -> Option<End> {
     let mut event = 1;
-    while at < log.len() {
-        let length = logs::length_of_event(model::NARROW_WIDTH, &log[at..]);
+    let mut rest = log;
+    // Kept: an iterator of events would say the same in more lines.
+    while !rest.is_empty() {
+        let at = log.len() - rest.len();
+        let length = logs::length_of_event(model::NARROW_WIDTH, rest);
         if length == 0 {
-            return End { at, event };
+            return Some(End {
+                event,
+                at,
+                fault: Fault::UnknownKind,
+            });
         }
-        if log.len() - at < length {
-            return End { at, event };
-        }
-        at += length;
-        event += 1;
-    }
-    End { at, event }
-}
-
-// Says where the run ended and why, where that is before the end of the log.
-fn say_end(rt: &impl Eprint, log: &[u8]) {
-    let end = end_of_run(log);
-    let at = end.at;
-    let event = end.event;
-    if at < log.len() {
-        let why = if logs::length_of_event(model::NARROW_WIDTH, &log[at..]) == 0 {
-            "the kind is unknown"
-        } else {
-            "the record is cut"
+        let Some(after) = rest.get(length..) else {
+            return Some(End {
+                event,
+                at,
+                fault: Fault::CutRecord,
+            });
         };
-        let _ = eprintln!(rt; "replay: the run ended at event {event}, byte {at}: {why}");
+        event += 1;
+        rest = after;
     }
+    None
 }
 
-// Says that the log is too long, or where the run ended.
+// Says that the log is too long, or where the run ended, if that is before the log does.
 fn say_unreplayed(rt: &impl Eprint, log: &[u8]) {
     if log.len() > texts::LOG_LIMIT {
         let _ = eprintln!(rt; "replay: the log is longer than 65,536 bytes");
-    } else {
-        say_end(rt, log);
+    } else if let Some(end) = end_of_run(log) {
+        let _ = eprintln!(rt; "replay: {end}");
     }
 }
 
@@ -121,7 +125,7 @@ const LOG_ROOM: usize = 65537;
 
 fn main(rt: HostRuntime) -> ExitCode {
     let mut log = [0u8; LOG_ROOM];
-    match read_log(&mut rt.stdin(), &mut log) {
+    match inputs::read_to_fill(&mut rt.stdin(), &mut log) {
         Ok(size) => replay(&rt, &log[..size]),
         Err(_) => {
             let _ = eprintln!(&rt; "replay: standard input cannot be read");

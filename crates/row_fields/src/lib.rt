@@ -1,16 +1,16 @@
 // One row of 32 bytes and the record that it names: document 02, Ask 11.
 #![tactic(auto)]
 
-ghost use Rattle.std.specs.Prelude.{◌≡◌, true, ◌+◌, ◌≤◌, ◌<◌, ◌++◌, length};
+ghost use Rattle.std.specs.Prelude.{◌≡◌, true, ◌+◌, ◌≤◌, ◌<◌, ◌++◌, length, IfSome, IfNone};
 ghost use Rattle.model.specs.Bits.{bytes};
 ghost use Rattle.model.specs.Buffers.{put};
 ghost use Rattle.model.specs.Layouts.{Field, mapping_kind, length_of};
-ghost use Rattle.model.specs.Mappings.{Held};
 ghost use Rattle.row_fields.specs.Rows.{row_of, column, Column, named, named_length, fits, record_of};
 ghost use Rattle.kinds.specs.Places.{place_of};
 ghost use Rattle.row_fields.specs.Masks.{first_mask_at, page_mask_at, ep4ta_mask_at};
 ghost use Rattle.row_fields.specs.Pieces.{Small, tags_number, last_number};
 
+use mappings::Record;
 use model::Mapping;
 
 // Writes two numbers one behind the other, each as so many bytes, and answers where they end.
@@ -23,34 +23,35 @@ fn put_two(out: &mut [u8], at: usize, size: usize, x: u64, second_size: usize, s
     buffers::put_number(out, next, second_size, second)
 }
 
-// Writes the row of the record at the front, at a position of the rows.
-pub fn put_row(part: &[u8], rows: &mut [u8], at: usize)
-    requires held { Held part.now }
-    requires at_in_bounds { at + 32 ≤ length rows.old }
-    ensures { rows.new ≡ put at (row_of part.now) rows.old }
+// Writes the row of the record at the front, at a position of the rows, and answers where it ends.
+pub fn put_row(part: Record, rows: &mut [u8], at: usize) -> usize
+    requires { at + 32 ≤ length rows.old }
+    ensures value { result ≡ at + 32 }
+    ensures rows_after { rows.new ≡ put at (row_of part.entry.bytes.now) rows.old }
 {
-    let mapping = mappings::mapping_of(part);
+    let mapping = part.mapping();
     let global = put_two(rows, at, 1, mapping.kind, 1, mapping.span);
     let vpid = put_two(rows, global, 1, mapping.global, 1, 0);
     let page = put_two(rows, vpid, 2, mapping.vpid, 2, mapping.pcid);
     let ep4ta = put_two(rows, page, 8, mapping.page, 8, mapping.frame);
-    buffers::put_number(rows, ep4ta, 8, mapping.ep4ta);
+    buffers::put_number(rows, ep4ta, 8, mapping.ep4ta)
 }
 
 // The mapping that a row names.
+#[tactic(auto, unfolding(crate::specs::Rows::named, crate::specs::Rows::column))]
 fn mapping_named(row: &[u8]) -> Mapping
     requires { 32 ≤ length row.now }
     ensures { result ≡ named row.now }
 {
     Mapping {
-        kind: numbers::number1(row, 0),
-        vpid: numbers::number2(row, 4),
-        pcid: numbers::number2(row, 6),
-        global: numbers::number1(row, 2),
-        span: numbers::number1(row, 1),
-        page: numbers::number8(row, 8),
-        frame: numbers::number8(row, 16),
-        ep4ta: numbers::number8(row, 24),
+        kind: numbers::number::<1>(row, 0),
+        vpid: numbers::number::<2>(row, 4),
+        pcid: numbers::number::<2>(row, 6),
+        global: numbers::number::<1>(row, 2),
+        span: numbers::number::<1>(row, 1),
+        page: numbers::number::<8>(row, 8),
+        frame: numbers::number::<8>(row, 16),
+        ep4ta: numbers::number::<8>(row, 24),
     }
 }
 
@@ -60,6 +61,8 @@ struct Mask(u64, u64, u64);
 
 // The masks, five for each kind from 1 on, by span. Where the kind may not have the span, the mask is that of the kind byte,
 // which is not 0. The compiler makes a table of the match; an array it would store anew at each call.
+// Kept: a table of its own beside that of `valid_records`, since a row has its fields at other places than a record.
+#[tactic(auto, unfolding(crate::specs::Masks::first_mask, crate::specs::Masks::page_mask, crate::specs::Masks::ep4ta_mask, model::specs::Mappings::linear, model::specs::Mappings::guest_physical, model::specs::Mappings::combined, model::specs::Mappings::structure_cache, model::specs::Mappings::wide, model::specs::Mappings::global_marked))]
 fn mask_at(i: u64) -> Mask
     requires { i < 50 }
     ensures { (result.0 ≡ first_mask_at i) × ((result.1 ≡ page_mask_at i) × (result.2 ≡ ep4ta_mask_at i)) }
@@ -125,32 +128,35 @@ fn mask_at(i: u64) -> Mask
         47 => Mask(0xF0000000FFFF0000, 0xFFFFE0000003FFFF, 0xFFFFFF0000000000),
         48 => Mask(0xF0000000FFFF0000, 0xFFFFE00007FFFFFF, 0xFFFFFF0000000000),
         49 => Mask(0xF0000000FFFF0000, 0xFFFFE00FFFFFFFFF, 0xFFFFFF0000000000),
-        _ => Mask(0xFF, 0, 0),
+        _ => unreachable!(),
     }
 }
 
-// The length of the record of a linear width that a row names; 0 where the row is bad.
-pub fn length_of_named(width: u64, row: &[u8]) -> usize
+// The length of the record of a linear width that a row names; none where the row is bad.
+// Kept: the row as a slice, and not a struct around one: that its items are bytes a proof knows of a parameter alone.
+#[tactic(auto, using(crate::proofs::Laws::Lengths::named_lengths))]
+pub fn length_of_named(width: u64, row: &[u8]) -> Option<usize>
     requires { 32 ≤ length row.now }
-    ensures { result ≡ named_length width row.now }
+    ensures none { IfNone result (named_length width row.now ≡ 0) }
+    ensures some { IfSome result (λ n. (0 < n) × (n ≡ named_length width row.now)) }
 {
-    let kind = numbers::number1(row, 0);
+    let kind = numbers::number::<1>(row, 0);
     if !kinds::is_mapping_at(width, kind) {
-        return 0;
+        return None;
     }
-    let span = numbers::number1(row, 1);
+    let span = numbers::number::<1>(row, 1);
     if 4 < span {
-        return 0;
+        return None;
     }
     let mask = mask_at(5 * kind + span - 5);
-    if (numbers::number8(row, 0) & mask.0 == 0)
-        & (numbers::number8(row, 8) & mask.1 == 0)
-        & (numbers::number8(row, 16) & 0xFFFF_FF00_0000_0000 == 0)
-        & (numbers::number8(row, 24) & mask.2 == 0)
+    if (numbers::number::<8>(row, 0) & mask.0 == 0)
+        & (numbers::number::<8>(row, 8) & mask.1 == 0)
+        & (numbers::number::<8>(row, 16) & 0xFFFF_FF00_0000_0000 == 0)
+        & (numbers::number::<8>(row, 24) & mask.2 == 0)
     {
-        return kinds::length_of_mapping(kind);
+        return Some(kinds::length_of_mapping(kind));
     }
-    0
+    None
 }
 
 // What stands before the span in a mapping's record, as a number.
@@ -176,6 +182,7 @@ fn last_number(mapping: Mapping) -> u64
 }
 
 // Where the frame or structure stands in a mapping's record.
+#[tactic(auto, using(crate::proofs::Laws::Overlaps::frame_place, crate::proofs::Laws::Overlaps::within))]
 fn place_of_frame(kind: u64) -> usize
     requires { mapping_kind kind ≡ true }
     ensures { result ≡ place_of Field.frame kind }
@@ -198,6 +205,7 @@ fn put_word(table: &mut [u8], at: usize, x: u64)
 
 // Writes the record of a mapping and three zero bytes, and answers where the record ends. Rows mix their kinds, so it is
 // written in six numbers, of one byte or of eight for all kinds; what one writes too much, the next ones write over.
+#[tactic(auto, using(crate::proofs::Laws::Overlaps::within))]
 fn put_mapping(mapping: Mapping, table: &mut [u8], at: usize) -> usize
     requires kind_value { mapping_kind mapping.kind ≡ true }
     requires small { Small mapping }
@@ -219,6 +227,7 @@ fn put_mapping(mapping: Mapping, table: &mut [u8], at: usize) -> usize
 
 // Writes the record that a row names and three zero bytes behind it, at a position of the table, and answers where the
 // record ends.
+#[tactic(auto, using(crate::proofs::Laws::Overlaps::small_of_fits), unfolding(crate::specs::Rows::named))]
 pub fn put_record(row: &[u8], table: &mut [u8], at: usize) -> usize
     requires in_bounds { 32 ≤ length row.now }
     requires row_value { mapping_kind (column Column.kind row.now) ≡ true }

@@ -2,35 +2,25 @@
 #![tactic(auto)]
 
 ghost use Rattle.std.specs.Prelude.{cond, ◌≡◌, eqb, leb};
-ghost use Rattle.model.specs.Mappings.{mapping, Held};
+ghost use Rattle.model.specs.Mappings.{mapping};
 ghost use Rattle.model.specs.Scopes.{vpid_named, no_tests, invvpid_tests, invept_tests, invlpg_tests, violation_tests, transition_tests, pcid_named, invpcid_tests, mov_to_cr3_tests, asked, has_scope};
 ghost use Rattle.model.specs.Reasons.{reason};
 ghost use Rattle.queries.specs.Queries.{any, only, all_but, Meets};
 ghost use Rattle.scopes.specs.Tags.{tags_of_ept};
 
+use mappings::Record;
 use model::{Context, Ept, Event, Operands, Reason, Violation};
-use queries::{Query, Tags};
-
-// The kinds of linear and combined mappings, which carry a VPID and a PCID, bit k for kind k.
-const WITH_VPID: u64 = 0x7DA;
+use queries::{Further, Pages, Query, Tags};
 
 // Nothing is asked of a record.
+#[tactic(auto, using(crate::proofs::Laws::Queries::meets_nothing))]
 fn no_query() -> Query
     ensures { Meets (λ m. no_tests) result }
 {
-    let any = queries::any();
     Query {
         kinds: kinds::ALL,
-        vpid: any,
-        further: false,
-        pcid: any,
-        global: false,
-        ep4ta: any,
-        covering: false,
-        structures: false,
-        physical: 0,
-        linear: 0,
-        sparing: false,
+        vpid: Tags::any(),
+        further: None,
     }
 }
 
@@ -39,73 +29,76 @@ fn vpids_named(o: Operands) -> Tags
     ensures { result ≡ cond (eqb o.type_number 2) (all_but 0) (only (vpid_named o)) }
 {
     if o.type_number == 2 {
-        return queries::all_but(0);
+        return Tags::all_but(0);
     }
-    queries::only(o.low % model::VPIDS)
+    Tags::only(o.low % model::VPIDS)
 }
 
 // What an INVVPID asks: types 0 and 3 more than the VPID.
+#[tactic(auto, using(crate::proofs::Laws::Queries::meets_invvpid_page, crate::proofs::Laws::Queries::meets_invvpid, crate::proofs::Laws::Queries::meets_invvpid_sparing))]
 fn invvpid_query(c: Context, o: Operands) -> Query
     ensures { Meets (invvpid_tests c o) result }
 {
-    let any = queries::any();
-    let vpid = vpids_named(o);
+    let further = match o.type_number {
+        0 => Some(Further {
+            page: Some(Pages {
+                physical: 0,
+                linear: addresses::page(c.linear_width, o.high),
+                structures: true,
+            }),
+            ..Further::nothing()
+        }),
+        1 | 2 => None,
+        _ => Some(Further {
+            sparing: true,
+            ..Further::nothing()
+        }),
+    };
     Query {
-        kinds: WITH_VPID,
-        vpid,
-        further: (o.type_number == 0) | !(o.type_number <= 2),
-        pcid: any,
-        global: false,
-        ep4ta: any,
-        covering: o.type_number == 0,
-        structures: true,
-        physical: 0,
-        linear: addresses::page(c.linear_width, o.high),
-        sparing: !(o.type_number <= 2),
+        kinds: kinds::WITH_VPID,
+        vpid: vpids_named(o),
+        further,
     }
 }
 
 // What an INVEPT asks: type 1 the EP4TA of the EPTP.
+#[tactic(auto, using(crate::proofs::Laws::Queries::meets_invept_one, crate::proofs::Laws::Queries::meets_invept))]
 fn invept_query(o: Operands) -> Query
     ensures { Meets (invept_tests o) result }
 {
-    let any = queries::any();
-    let ep4ta = queries::only(addresses::ep4ta(o.low));
+    let further = if o.type_number == 1 {
+        Some(Further {
+            ep4ta: Tags::only(addresses::ep4ta(o.low)),
+            ..Further::nothing()
+        })
+    } else {
+        None
+    };
     Query {
         kinds: kinds::WITH_EP4TA,
-        vpid: any,
-        further: o.type_number == 1,
-        pcid: any,
-        global: false,
-        ep4ta,
-        covering: false,
-        structures: false,
-        physical: 0,
-        linear: 0,
-        sparing: false,
+        vpid: Tags::any(),
+        further,
     }
 }
 
 // What an INVLPG at a canonical address asks.
+#[tactic(auto, using(crate::proofs::Laws::Queries::meets_invlpg))]
 fn invlpg_query(c: Context, address: u64) -> Query
     ensures { Meets (invlpg_tests c address) result }
 {
-    let place = c.place;
-    let vpid = queries::only(contexts::vpid(place));
-    let pcid = queries::only(c.pcid);
-    let ep4ta = queries::any();
     Query {
-        kinds: WITH_VPID,
-        vpid,
-        further: true,
-        pcid,
-        global: true,
-        ep4ta,
-        covering: true,
-        structures: false,
-        physical: 0,
-        linear: addresses::page(c.linear_width, address),
-        sparing: false,
+        kinds: kinds::WITH_VPID,
+        vpid: Tags::only(contexts::vpid(c.place)),
+        further: Some(Further {
+            pcid: Tags::only(c.pcid),
+            global: true,
+            page: Some(Pages {
+                physical: 0,
+                linear: addresses::page(c.linear_width, address),
+                structures: false,
+            }),
+            ..Further::nothing()
+        }),
     }
 }
 
@@ -114,8 +107,8 @@ fn current_ep4tas(ept: Ept) -> Tags
     ensures { result ≡ tags_of_ept ept }
 {
     match ept {
-        Ept::Off => queries::no_tags(),
-        Ept::On(ep4ta) => queries::only(ep4ta),
+        Ept::Off => Tags::none(),
+        Ept::On(ep4ta) => Tags::only(ep4ta),
     }
 }
 
@@ -131,47 +124,35 @@ fn kinds_of_violation(v: Violation) -> u64
 }
 
 // What an EPT violation asks.
+#[tactic(auto, using(crate::proofs::Laws::Queries::meets_violation))]
 fn violation_query(c: Context, v: Violation) -> Query
     ensures { Meets (violation_tests c v) result }
 {
-    let place = c.place;
-    let ept = contexts::ept(place);
-    let ep4ta = current_ep4tas(ept);
-    let vpid = queries::only(contexts::vpid(place));
-    let pcid = queries::only(c.pcid);
     Query {
         kinds: kinds_of_violation(v),
-        vpid,
-        further: true,
-        pcid,
-        global: false,
-        ep4ta,
-        covering: true,
-        structures: true,
-        physical: addresses::guest_physical_page(v.physical),
-        linear: addresses::page(c.linear_width, v.linear),
-        sparing: false,
+        vpid: Tags::only(contexts::vpid(c.place)),
+        further: Some(Further {
+            pcid: Tags::only(c.pcid),
+            ep4ta: current_ep4tas(contexts::ept(c.place)),
+            page: Some(Pages {
+                physical: addresses::guest_physical_page(v.physical),
+                linear: addresses::page(c.linear_width, v.linear),
+                structures: true,
+            }),
+            ..Further::nothing()
+        }),
     }
 }
 
 // What a VM entry or VM exit without VPIDs asks.
+#[tactic(auto, using(crate::proofs::Laws::Queries::meets_transition))]
 fn transition_query() -> Query
     ensures { Meets transition_tests result }
 {
-    let any = queries::any();
-    let vpid = queries::only(0);
     Query {
-        kinds: WITH_VPID,
-        vpid,
-        further: false,
-        pcid: any,
-        global: false,
-        ep4ta: any,
-        covering: false,
-        structures: false,
-        physical: 0,
-        linear: 0,
-        sparing: false,
+        kinds: kinds::WITH_VPID,
+        vpid: Tags::only(0),
+        further: None,
     }
 }
 
@@ -180,54 +161,50 @@ fn pcids_named(o: Operands) -> Tags
     ensures { result ≡ cond (leb o.type_number 1) (only (pcid_named o)) any }
 {
     if o.type_number <= 1 {
-        return queries::only(o.low % model::PCIDS);
+        return Tags::only(o.low % model::PCIDS);
     }
-    queries::any()
+    Tags::any()
 }
 
 // What an INVPCID asks.
+#[tactic(auto, using(crate::proofs::Laws::Queries::meets_invpcid_page, crate::proofs::Laws::Queries::meets_invpcid_no_page))]
 fn invpcid_query(c: Context, o: Operands) -> Query
     ensures { Meets (invpcid_tests c o) result }
 {
-    let place = c.place;
-    let vpid = queries::only(contexts::vpid(place));
-    let pcid = pcids_named(o);
-    let ep4ta = queries::any();
+    let page = if o.type_number == 0 {
+        Some(Pages {
+            physical: 0,
+            linear: addresses::page(c.linear_width, o.high),
+            structures: true,
+        })
+    } else {
+        None
+    };
     Query {
-        kinds: WITH_VPID,
-        vpid,
-        further: true,
-        pcid,
-        global: false,
-        ep4ta,
-        covering: o.type_number == 0,
-        structures: true,
-        physical: 0,
-        linear: addresses::page(c.linear_width, o.high),
-        sparing: !(o.type_number == 2),
+        kinds: kinds::WITH_VPID,
+        vpid: Tags::only(contexts::vpid(c.place)),
+        further: Some(Further {
+            pcid: pcids_named(o),
+            page,
+            sparing: o.type_number != 2,
+            ..Further::nothing()
+        }),
     }
 }
 
 // What a MOV to CR3 without bit 63 asks.
+#[tactic(auto, using(crate::proofs::Laws::Queries::meets_mov_to_cr3))]
 fn mov_to_cr3_query(c: Context, new: u64) -> Query
     ensures { Meets (mov_to_cr3_tests c new) result }
 {
-    let place = c.place;
-    let vpid = queries::only(contexts::vpid(place));
-    let pcid = queries::only(new);
-    let ep4ta = queries::any();
     Query {
-        kinds: WITH_VPID,
-        vpid,
-        further: true,
-        pcid,
-        global: false,
-        ep4ta,
-        covering: false,
-        structures: false,
-        physical: 0,
-        linear: 0,
-        sparing: true,
+        kinds: kinds::WITH_VPID,
+        vpid: Tags::only(contexts::vpid(c.place)),
+        further: Some(Further {
+            pcid: Tags::only(new),
+            sparing: true,
+            ..Further::nothing()
+        }),
     }
 }
 
@@ -236,22 +213,10 @@ fn is_scoped(c: Context, e: Event) -> bool
     ensures { result ≡ (asked c e).scoped }
 {
     match e {
-        Event::Creation(_) => false,
-        Event::Invvpid(_) => true,
-        Event::Invept(_) => true,
-        Event::Invlpg(_) => true,
-        Event::EptViolation(_) => true,
+        Event::Creation(_) | Event::Vmxon | Event::Vmxoff | Event::NewPcid(_) => false,
         Event::Entry(n) => n.vpids != 1,
-        Event::Exit(_) => {
-            let left = c.place;
-            contexts::vpid(left) == 0
-        }
-        Event::Vmxon => false,
-        Event::Vmxoff => false,
-        Event::NewPcid(_) => false,
-        Event::Reset => true,
-        Event::Invpcid(_) => true,
-        Event::MovToCr3(_) => true,
+        Event::Exit(_) => contexts::vpid(c.place) == 0,
+        _ => true,
     }
 }
 
@@ -260,24 +225,14 @@ fn is_addressed(c: Context, e: Event) -> bool
     ensures { result ≡ (asked c e).addressed }
 {
     match e {
-        Event::Creation(_) => true,
-        Event::Invvpid(_) => true,
-        Event::Invept(_) => true,
         Event::Invlpg(address) => addresses::is_canonical(c.linear_width, address),
-        Event::EptViolation(_) => true,
-        Event::Entry(_) => true,
-        Event::Exit(_) => true,
-        Event::Vmxon => true,
-        Event::Vmxoff => true,
-        Event::NewPcid(_) => true,
-        Event::Reset => true,
-        Event::Invpcid(_) => true,
-        Event::MovToCr3(_) => true,
+        _ => true,
     }
 }
 
 // Some record may be in the required scope of the event, judged in the context. Where none may, no table
 // loses a record.
+#[tactic(auto, unfolding(model::specs::Scopes::has_scope))]
 pub fn has_scope(c: Context, e: Event) -> bool
     ensures { result ≡ has_scope c e }
 {
@@ -289,26 +244,21 @@ pub fn query(c: Context, e: Event) -> Query
     ensures { Meets (asked c e).tests result }
 {
     match e {
-        Event::Creation(_) => no_query(),
         Event::Invvpid(o) => invvpid_query(c, o),
         Event::Invept(o) => invept_query(o),
         Event::Invlpg(address) => invlpg_query(c, address),
         Event::EptViolation(v) => violation_query(c, v),
-        Event::Entry(_) => transition_query(),
-        Event::Exit(_) => transition_query(),
-        Event::Vmxon => no_query(),
-        Event::Vmxoff => no_query(),
-        Event::NewPcid(_) => no_query(),
-        Event::Reset => no_query(),
+        Event::Entry(_) | Event::Exit(_) => transition_query(),
         Event::Invpcid(o) => invpcid_query(c, o),
         Event::MovToCr3(pcid) => mov_to_cr3_query(c, pcid),
+        _ => no_query(),
     }
 }
 
 // Why the record is in the required scope of the event or out of it, judged in the context.
-pub fn reason(c: Context, e: Event, part: &[u8]) -> Reason
-    requires { Held part.now }
-    ensures { result ≡ reason c e (mapping part.now) }
+#[tactic(auto, using(crate::proofs::Laws::Queries::first_failed_asked), unfolding(model::specs::Reasons::reason))]
+pub fn reason(c: Context, e: Event, part: Record) -> Reason
+    ensures { result ≡ reason c e (mapping part.entry.bytes.now) }
 {
     if !is_scoped(c, e) {
         return Reason::NoScope;
@@ -316,6 +266,5 @@ pub fn reason(c: Context, e: Event, part: &[u8]) -> Reason
     if !is_addressed(c, e) {
         return Reason::NotCanonical;
     }
-    let q = query(c, e);
-    queries::first_failed(q, part)
+    query(c, e).first_failed(part)
 }

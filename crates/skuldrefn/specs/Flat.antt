@@ -1,5 +1,5 @@
 -- Results as flat structs of numbers, for callers in other languages.
-use Rattle.std.specs.Prelude.{ℕ, ◌≤◌, cond, List, ◌≡◌, length, replicate}
+use Rattle.std.specs.Prelude.{ℕ, ◌≤◌, cond, List, ◌≡◌, Err, length, replicate}
 use Rattle.model.specs.declared.Context.{Context}
 use Rattle.model.specs.declared.Place.TheVariants.{Outside}
 use Rattle.model.specs.declared.Address.{Address}
@@ -12,7 +12,7 @@ use Rattle.claims.specs.declared.Values as Claims
 use Rattle.claims.specs.declared.Judgement.TheVariants.{Refused}
 use Rattle.claims.specs.Claims.{judgement, judgement_values}
 use Rattle.walks.specs.declared.Outcome.{Outcome}
-use Rattle.walks.specs.declared.Ending.TheVariants.{ContextOutOfRange}
+use Rattle.walks.specs.declared.Ground.TheVariants.{ContextOutOfRange}
 use Rattle.walks.specs.Walks.{memory, ending_values, walk_of}
 use Rattle.flat_contexts.specs.declared.FlatContext.{FlatContext}
 use Rattle.flat_contexts.specs.Contexts.{is_known, unflatten, flatten}
@@ -56,6 +56,10 @@ flat_counted_written c kinds pcids t e buffer = cond (is_known c) (counted_writt
 unfoldable pub flat_counts : ℕ → List ℕ → ℕ → FlatCounts
 flat_counts width t n = record { answer = (table_counts width t n).answer; kinds = record { rows = (table_counts width t n).kinds } }
 
+-- no part, with an answer
+abbrev pub no_part : ℕ → FlatPart
+no_part answer = record { answer = answer; start = 0; length = 0 }
+
 -- a lookup: its answer, and where the part stands in the table
 unfoldable pub flat_lookup : FlatContext → Address → List ℕ → ℕ → FlatPart
 flat_lookup c a t k =
@@ -91,7 +95,7 @@ flat_walk c image root eptp vpid address =
     flat_outcome
     (cond (is_known c)
     (walk_of (memory image) (unflatten c) root eptp vpid address)
-    (record { ending = ContextOutOfRange; read = 0; «record» = replicate 22 0 }))
+    (record { ending = Err ContextOutOfRange; read = 0; «record» = replicate 22 0 }))
 
 -- the context of a capability, N and a linear width after a reset
 abbrev pub fresh : ℕ → ℕ → ℕ → Context

@@ -2,14 +2,14 @@
 // is handed in as numbers; a place or EPT number that stands for nothing is answered 1.
 #![tactic(auto)]
 
-ghost use Rattle.std.specs.Prelude.{◌≤◌, ◌≡◌, length, cond};
+ghost use Rattle.std.specs.Prelude.{◌≤◌, ◌≡◌, length};
 ghost use Rattle.widening.specs.Widening.{widening, widening_written};
 ghost use Rattle.fixed_rows.specs.FixedRows.{exporting, exporting_written, importing, importing_written};
 ghost use Rattle.logs.specs.Logs.{told_length};
 ghost use Rattle.tables.specs.Counts.{table_pcid_counts};
 ghost use Rattle.level_steps.specs.Levels.{handed};
 ghost use Rattle.flat_levels.specs.Flat.{flat_levels_step, flat_first_pcids, flat_first_written, flat_second_pcids, flat_second_written, flat_levels_lookup};
-ghost use Rattle.skuldrefn.specs.Flat.{flat_step, flat_written, flat_counted_step, flat_counted_pcids, flat_counted_written, flat_counts, flat_lookup, flat_explanation, flat_judgement, flat_walk, fresh, FlatReplays};
+ghost use Rattle.skuldrefn.specs.Flat.{flat_step, flat_written, flat_counted_step, flat_counted_pcids, flat_counted_written, flat_counts, no_part, flat_lookup, flat_explanation, flat_judgement, flat_walk, fresh, FlatReplays};
 ghost use Rattle.flat_fragments.specs.Flat.{flat_taken, flat_taken_pcids, flat_taken_written, flat_finished, flat_emptied};
 
 use claims::Judgement;
@@ -19,10 +19,12 @@ use flat_fragments::{FlatFinished, FlatReader, FlatTaken};
 use flat_levels::{FlatLevelPart, FlatLevelStep};
 use flat_steps::{FlatKinds, FlatStep};
 use model::{Address, Context, Place};
-use walks::Ending;
+use reasons::Explanation;
+use walks::Ground;
 use widening::Widened;
 
 // What a step beside a tally reports.
+// Kept: a struct of the C interface.
 #[repr(C)]
 #[derive(Clone, Copy)]
 pub struct FlatCountedStep {
@@ -34,6 +36,7 @@ pub struct FlatCountedStep {
 // table, the dropped count, and the counts of the new table; those by PCID are changed in place. A tally that does not
 // match the old table, or has not 4,096 counts by PCID, is refused with 13. A refusal writes nothing and hands back the
 // context and the counts as they came.
+#[tactic(auto, unfolding(crate::specs::Flat::flat_counted_step, crate::specs::Flat::flat_counted_pcids, crate::specs::Flat::flat_counted_written))]
 pub fn skuldrefn_step(
     context: FlatContext,
     kinds: FlatKinds,
@@ -46,15 +49,15 @@ pub fn skuldrefn_step(
     ensures pcids_after { pcids.new ≡ flat_counted_pcids context kinds pcids.old table.now event.now (length new.old) }
     ensures after { new.new ≡ flat_counted_written context kinds pcids.old table.now event.now new.old }
 {
-    if !flat_contexts::is_known(context) {
+    if !context.is_known() {
         return FlatCountedStep {
-            step: flat_steps::refused(1, 0, context),
+            step: FlatStep::refused(1, 0, context),
             kinds,
         };
     }
     let rows = kinds.rows;
     let counted = counted_steps::counted_step(
-        flat_contexts::context_of(context),
+        Context::from(context),
         rows,
         pcids,
         table,
@@ -63,12 +66,13 @@ pub fn skuldrefn_step(
     );
     let after = counted.kinds;
     FlatCountedStep {
-        step: flat_steps::flat_step(context, counted.step),
+        step: FlatStep::new(context, counted.step),
         kinds: FlatKinds { rows: after },
     }
 }
 
 // One step without a tally. A refusal writes nothing and hands back the context as it came.
+#[tactic(auto, unfolding(crate::specs::Flat::flat_step, crate::specs::Flat::flat_written))]
 pub fn skuldrefn_plain_step(
     context: FlatContext,
     table: &[u8],
@@ -78,16 +82,17 @@ pub fn skuldrefn_plain_step(
     ensures value { result ≡ flat_step context table.now event.now (length new.old) }
     ensures after { new.new ≡ flat_written context table.now event.now new.old }
 {
-    if !flat_contexts::is_known(context) {
-        return flat_steps::refused(1, 0, context);
+    if !context.is_known() {
+        return FlatStep::refused(1, 0, context);
     }
-    flat_steps::flat_step(
+    FlatStep::new(
         context,
-        steps::step(flat_contexts::context_of(context), table, event, new),
+        steps::step(Context::from(context), table, event, new),
     )
 }
 
 // A fresh count of a table: the answer, and the counts by kind and span.
+// Kept: a struct of the C interface.
 #[repr(C)]
 #[derive(Clone, Copy)]
 pub struct FlatCounts {
@@ -98,19 +103,27 @@ pub struct FlatCounts {
 // Counts the records of a table at a linear width; any width but 57 is read as 48. The answer is 2 or 3, of the table,
 // or 13, where there are not 4,096 counts for the PCIDs, else 0. A refusal leaves these as they are, and the counts by
 // kind and span are 0.
+#[tactic(auto, unfolding(crate::specs::Flat::flat_counts))]
 pub fn skuldrefn_count(linear_width: u64, table: &[u8], pcids: &mut [u16]) -> FlatCounts
     ensures value { result ≡ flat_counts linear_width table.now (length pcids.old) }
     ensures pcids_after { pcids.new ≡ table_pcid_counts linear_width table.now pcids.old }
 {
-    let counted = tables::count(linear_width, table, pcids);
-    let rows = counted.kinds;
-    FlatCounts {
-        answer: counted.answer,
-        kinds: FlatKinds { rows },
+    match tables::count(linear_width, table, pcids) {
+        Ok(rows) => FlatCounts {
+            answer: 0,
+            kinds: FlatKinds { rows },
+        },
+        Err(why) => FlatCounts {
+            answer: why.number(),
+            kinds: FlatKinds {
+                rows: tally_rows::no_rows(),
+            },
+        },
     }
 }
 
 // A part of a table, with the answer to the lookup. Start and length are 0 where the part is empty.
+// Kept: a struct of the C interface.
 #[repr(C)]
 #[derive(Clone, Copy)]
 pub struct FlatPart {
@@ -119,23 +132,33 @@ pub struct FlatPart {
     pub length: usize,
 }
 
+// No part, with an answer.
+fn no_part(answer: u64) -> FlatPart
+    ensures { result ≡ no_part answer }
+{
+    FlatPart {
+        answer,
+        start: 0,
+        length: 0,
+    }
+}
+
 // The lookup of an address.
+#[tactic(auto, unfolding(crate::specs::Flat::flat_lookup))]
 fn look_up(context: FlatContext, a: Address, table: &[u8], k: u64) -> FlatPart
     ensures { result ≡ flat_lookup context a table.now k }
 {
-    if !flat_contexts::is_known(context) {
-        return FlatPart {
-            answer: 1,
-            start: 0,
-            length: 0,
-        };
+    if !context.is_known() {
+        return no_part(1);
     }
-    let found = lookups::find(flat_contexts::context_of(context), a, table, k);
-    let length = found.end - found.start;
-    FlatPart {
-        answer: found.answer,
-        start: found.start,
-        length,
+    match lookups::find(Context::from(context), a, table, k) {
+        Ok(Some(part)) => FlatPart {
+            answer: 0,
+            start: part.start,
+            length: part.end - part.start,
+        },
+        Ok(None) => no_part(0),
+        Err(why) => no_part(why.number()),
     }
 }
 
@@ -212,6 +235,7 @@ pub fn skuldrefn_lookup_levels(
 // the EPTP that goes with it, else 0.
 // 1 refused, 2 no scope, 3 not canonical, 4 wrong kind, 5 wrong VPID, 6 wrong PCID, 7 wrong EP4TA,
 // 8 not covering, 9 spared as global, 10 in scope.
+// Kept: a struct of the C interface.
 #[repr(C)]
 #[derive(Clone, Copy)]
 pub struct FlatReason {
@@ -221,21 +245,22 @@ pub struct FlatReason {
 }
 
 // Why the event drops the record in the bytes or leaves it.
+#[tactic(auto, unfolding(crate::specs::Flat::flat_explanation))]
 pub fn skuldrefn_explain(context: FlatContext, bytes: &[u8], event: &[u8]) -> FlatReason
     ensures { result ≡ flat_explanation context bytes.now event.now }
 {
-    if !flat_contexts::is_known(context) {
+    if !context.is_known() {
         return FlatReason {
             reason: 1,
             answer: 1,
             rule: 0,
         };
     }
-    let r = reasons::explain(flat_contexts::context_of(context), bytes, event);
+    let x = Explanation::from(reasons::explain(Context::from(context), bytes, event));
     FlatReason {
-        reason: reasons::number(r),
-        answer: reasons::answer(r),
-        rule: reasons::rule(r),
+        reason: reasons::number(x),
+        answer: reasons::answer(x),
+        rule: reasons::rule(x),
     }
 }
 
@@ -269,6 +294,7 @@ pub fn skuldrefn_import(linear_width: u64, rows: &[u8], table: &mut [u8]) -> Con
 // Judges a claimed table after an event: 0, it is an in-order part of what the step leaves; 1, the step is refused, with
 // its answer and the rule of the EPTP that goes with it; 2, the claim is malformed; 3, the record at a byte position of
 // it cannot be matched.
+#[tactic(auto, unfolding(crate::specs::Flat::flat_judgement))]
 pub fn skuldrefn_judge(
     context: FlatContext,
     table: &[u8],
@@ -277,14 +303,15 @@ pub fn skuldrefn_judge(
 ) -> claims::Values
     ensures { result ≡ flat_judgement context table.now event.now claim.now }
 {
-    if !flat_contexts::is_known(context) {
-        return claims::values_of(Judgement::Refused(1, 0));
+    if !context.is_known() {
+        return claims::Values::from(Judgement::Refused(1, 0));
     }
-    claims::values_of(claims::judge(flat_contexts::context_of(context), table, event, claim))
+    claims::Values::from(claims::judge(Context::from(context), table, event, claim))
 }
 
 // What a walk answers: how it ended and where, as numbers; how many entries it read; and the kind 3 record, all 0 where it
 // met a ground.
+// Kept: a struct of the C interface.
 #[repr(C)]
 #[derive(Clone, Copy)]
 pub struct FlatWalk {
@@ -294,6 +321,7 @@ pub struct FlatWalk {
 }
 
 // Walks the guest's tables in an image of memory, through the EPT of an EPTP, for a linear address.
+#[tactic(auto, unfolding(crate::specs::Flat::flat_walk))]
 pub fn skuldrefn_walk(
     context: FlatContext,
     image: &[u8],
@@ -305,25 +333,18 @@ pub fn skuldrefn_walk(
     ensures value { result ≡ flat_walk context image.now root eptp vpid address }
     ensures read_bound { result.read ≤ 24 }
 {
-    if !flat_contexts::is_known(context) {
+    if !context.is_known() {
         return FlatWalk {
-            ending: walks::values_of(Ending::ContextOutOfRange),
+            ending: walks::Values::from(Err(Ground::ContextOutOfRange)),
             read: 0,
             record: [0u8; 22],
         };
     }
-    let walked = walks::walk(
-        flat_contexts::context_of(context),
-        image,
-        root,
-        eptp,
-        vpid,
-        address,
-    );
+    let walked = walks::walk(Context::from(context), image, root, eptp, vpid, address);
     let ending = walked.ending;
     let record = walked.record;
     FlatWalk {
-        ending: walks::values_of(ending),
+        ending: walks::Values::from(ending),
         read: walked.read,
         record,
     }
@@ -339,6 +360,7 @@ pub fn skuldrefn_event_length(linear_width: u64, log: &[u8]) -> usize
 
 // What a replay leaves: the context, the length of the table in force, whether the first of the two
 // buffers holds it (1) or the second (0), and how many rows were written.
+// Kept: a struct of the C interface.
 #[repr(C)]
 #[derive(Clone, Copy)]
 pub struct FlatReplayed {
@@ -346,13 +368,6 @@ pub struct FlatReplayed {
     pub length: usize,
     pub first: u64,
     pub count: usize,
-}
-
-// A truth as a number.
-fn number_of(b: bool) -> u64
-    ensures { result ≡ cond b 1 0 }
-{
-    if b { 1 } else { 0 }
 }
 
 // Replays the events of a log from a reset with a capability and two widths, through two buffers, and
@@ -377,12 +392,10 @@ pub fn skuldrefn_replay(
         place: Place::Outside,
     };
     let r = logs::replay(fresh, log, first, second, rows);
-    let context = r.context;
-    let flat = flat_contexts::flat_context(context);
     FlatReplayed {
-        context: flat,
+        context: FlatContext::from(r.context),
         length: r.length,
-        first: number_of(r.first),
+        first: u64::from(r.first),
         count: r.count,
     }
 }

@@ -8,10 +8,11 @@ ghost use Rattle.model.specs.Tables.{limit};
 ghost use Rattle.model.specs.Events.{event};
 ghost use Rattle.model.specs.Answers.{valid_here, created};
 ghost use Rattle.model.specs.Steps.{new_table};
+ghost use Rattle.model.specs.Refusals.{refusal_number};
 ghost use Rattle.states.specs.States.{Holds, HoldsAt, AppliesTo, Applies};
 ghost use Rattle.states.specs.Outcomes.{refused, extended, exchanged};
 
-use model::{Context, Event, EventReading};
+use model::{Context, Event, Refusal};
 
 // The context in force, and the table: the first bytes of one of the two buffers, and how many records they are.
 #[derive(Clone, Copy)]
@@ -23,6 +24,7 @@ pub struct State {
 }
 
 // The state after an event, and its answer and dropped count.
+// Kept: the answer is the number that a row of the replay has, as the definition `Applies` says.
 #[derive(Clone, Copy)]
 pub struct Applied {
     pub state: State,
@@ -31,17 +33,18 @@ pub struct Applied {
 }
 
 // A refused event leaves the state as it was.
-fn refuse(state: State, answer: u64) -> Applied
-    ensures { result ≡ refused state answer }
+#[tactic(auto, unfolding(crate::specs::Outcomes::refused))]
+fn refuse(state: State, why: Refusal) -> Applied
+    ensures { result ≡ refused state (refusal_number why) }
 {
     Applied {
         state,
-        answer,
+        answer: why.number(),
         dropped: 0,
     }
 }
 
-// The table stays in its buffer, with a creation behind it.
+// The table stays in its buffer, with a creation after it.
 fn extend(state: State, e: Event, raw: &[u8], buffer: &mut [u8]) -> Applied
     requires e_value { e ≡ event raw.now }
     requires raw_in_bounds { state.length + length (created raw.now) ≤ length buffer.old }
@@ -49,14 +52,13 @@ fn extend(state: State, e: Event, raw: &[u8], buffer: &mut [u8]) -> Applied
     ensures value { result ≡ extended state raw.now }
     ensures buffer_after { buffer.new ≡ put state.length (created raw.now) buffer.old }
 {
-    let context = state.context;
     let length = creations::add_creation(raw, buffer, state.length);
     Applied {
         state: State {
-            context: next_contexts::next_context(context, e),
+            context: next_contexts::next_context(state.context, e),
             length,
             records: state.records + creations::created_records(raw),
-            first: state.first,
+            ..state
         },
         answer: 0,
         dropped: 0,
@@ -107,14 +109,13 @@ fn apply_to(state: State, event: &[u8], front: &mut [u8], back: &mut [u8]) -> Ap
 {
     let context = state.context;
     if !contexts::is_in_range(context) {
-        return refuse(state, 1);
+        return refuse(state, Refusal::ContextOutOfRange);
     }
-    let EventReading::Read(e) = events::read_event(context.linear_width, event) else {
-        return refuse(state, 4);
+    let Some(e) = events::read_event(context.linear_width, event) else {
+        return refuse(state, Refusal::EventNotValid);
     };
-    let ground = steps::ground_of_event(context, e, &front[..state.length], event, back.len());
-    if ground.answer != 0 {
-        return refuse(state, ground.answer);
+    if let Err(why) = steps::check_event(context, e, &front[..state.length], event, back.len()) {
+        return refuse(state, why);
     }
     let long = (model::TABLE_LIMIT <= front.len()) & (model::TABLE_LIMIT <= back.len());
     if long & !scopes::has_scope(context, e) {

@@ -7,19 +7,20 @@ ghost use Rattle.model.specs.Tables.{records};
 ghost use Rattle.model.specs.Events.{event};
 ghost use Rattle.model.specs.Answers.{first, valid_here, table_grounds, created, answer, rule_with};
 ghost use Rattle.model.specs.Steps.{new_table, dropped_count, refusal, stepped, written};
+ghost use Rattle.model.specs.Refusals.{refusal_number, refusal_rule, answer_of, rule_of};
 ghost use Rattle.tallies.specs.Tallies.{Tallied, Carries};
 ghost use Rattle.steps.specs.Counts.{records_after};
-ghost use Rattle.steps.specs.Acceptances.{acceptance};
+ghost use Rattle.steps.specs.Acceptances.{acceptance, reported};
 
-use model::{Context, Event, EventReading, Step};
+use model::{Context, Event, Refusal, Step};
 
 // What a refused step reports.
-fn refused(answer: u64, rule: u64, context: Context) -> Step
-    ensures { result ≡ refusal answer rule context }
+pub fn refused(why: Refusal, context: Context) -> Step
+    ensures { result ≡ refusal (refusal_number why) (refusal_rule why) context }
 {
     Step {
-        answer,
-        rule,
+        answer: why.number(),
+        rule: why.rule(),
         context,
         length: 0,
         dropped: 0,
@@ -27,6 +28,7 @@ fn refused(answer: u64, rule: u64, context: Context) -> Step
 }
 
 // How long a new table is, and how many records were dropped.
+// Kept: the length is that of the whole new table, and in `Filtered` that of the records left.
 #[derive(Clone, Copy)]
 pub struct Performed {
     pub length: usize,
@@ -79,36 +81,26 @@ pub fn accepted(c: Context, e: Event, performed: Performed) -> Step
     }
 }
 
-// Why a step is refused: its answer, and the rule of the EPTP that goes with it; 0 and 0 where the event is accepted.
-#[derive(Clone, Copy)]
-pub struct Ground {
-    pub answer: u64,
-    pub rule: u64,
-}
-
-// Answers 5 to 12, to a valid event on a context and a table to which answers 1 to 4 do not apply, with a new buffer of
-// so many bytes.
-pub fn ground_of_event(c: Context, e: Event, table: &[u8], raw: &[u8], room: usize) -> Ground
+// Refuses a valid event on a context and a table to which answers 1 to 4 do not apply, with a new buffer of so many bytes:
+// answers 5 to 12.
+pub fn check_event(
+    c: Context,
+    e: Event,
+    table: &[u8],
+    raw: &[u8],
+    room: usize,
+) -> Result<(), Refusal>
     requires table_value { first (table_grounds c table.now) ≡ 0 }
     requires raw_value { valid_here c raw.now ≡ true }
     requires e_value { e ≡ event raw.now }
-    ensures answer_value { result.answer ≡ answer c table.now raw.now room }
-    ensures rule_value { result.rule ≡ rule_with c raw.now result.answer }
+    ensures answer_value { answer_of result ≡ answer c table.now raw.now room }
+    ensures rule_value { rule_of result ≡ rule_with c raw.now (answer_of result) }
 {
-    let answer = answers::answer_to_event(c, e);
-    if answer != 0 {
-        return Ground {
-            answer,
-            rule: answers::rule_with_answer(c, e, answer),
-        };
-    }
+    answers::check_event(c, e)?;
     if creations::is_without_room(room, table, raw) {
-        return Ground {
-            answer: 12,
-            rule: 0,
-        };
+        return Err(Refusal::NoRoom);
     }
-    Ground { answer: 0, rule: 0 }
+    Ok(())
 }
 
 // One valid event on a context and a table to which answers 1 to 4 do not apply, and whose number of records is known:
@@ -134,35 +126,29 @@ pub fn step_read(
     ensures after { new.new ≡ written c table.now raw.now new.old }
     ensures carries { Carries counting (records_after c table.now raw.now (length new.old)) cells.old pcids.old cells.new pcids.new }
 {
-    let ground = ground_of_event(c, e, table, raw, new.len());
-    if ground.answer != 0 {
-        return refused(ground.answer, ground.rule, c);
+    if let Err(why) = check_event(c, e, table, raw, new.len()) {
+        return refused(why, c);
     }
     let performed = perform(c, e, table, count, raw, counting, cells, pcids, new);
     accepted(c, e, performed)
 }
 
-// One event on a context and a table to which answers 1 to 3 do not apply, and whose number of records is known:
-// answers 4 to 12, and what `step` writes.
-fn step_judged(c: Context, table: &[u8], count: usize, event: &[u8], new: &mut [u8]) -> Step
-    requires table_value { first (table_grounds c table.now) ≡ 0 }
-    requires count_value { count ≡ length (records table.now) }
-    ensures value { result ≡ stepped c table.now event.now (length new.old) }
+// The step, or why it is refused.
+fn try_step(c: Context, table: &[u8], event: &[u8], new: &mut [u8]) -> Result<Step, Refusal>
+    ensures value { reported c result ≡ stepped c table.now event.now (length new.old) }
     ensures after { new.new ≡ written c table.now event.now new.old }
 {
-    let EventReading::Read(e) = events::read_event(c.linear_width, event) else {
-        return refused(4, 0, c);
+    let count = tables::judge_in(c, table)?;
+    let Some(e) = events::read_event(c.linear_width, event) else {
+        return Err(Refusal::EventNotValid);
     };
-    let ground = ground_of_event(c, e, table, event, new.len());
-    if ground.answer != 0 {
-        return refused(ground.answer, ground.rule, c);
-    }
+    check_event(c, e, table, event, new.len())?;
     let mut cells = [0u16; 1];
     let mut pcids = [0u16; 1];
     let performed = perform(
         c, e, table, count, event, false, &mut cells, &mut pcids, new,
     );
-    accepted(c, e, performed)
+    Ok(accepted(c, e, performed))
 }
 
 // One event on a context and a table. An accepted event's new table is written to the front of the new
@@ -172,12 +158,8 @@ pub fn step(c: Context, table: &[u8], event: &[u8], new: &mut [u8]) -> Step
     ensures value { result ≡ stepped c table.now event.now (length new.old) }
     ensures after { new.new ≡ written c table.now event.now new.old }
 {
-    if !contexts::is_in_range(c) {
-        return refused(1, 0, c);
+    match try_step(c, table, event, new) {
+        Ok(step) => step,
+        Err(why) => refused(why, c),
     }
-    let judged = tables::judge(c.linear_width, table);
-    if judged.answer != 0 {
-        return refused(judged.answer, 0, c);
-    }
-    step_judged(c, table, judged.records, event, new)
 }

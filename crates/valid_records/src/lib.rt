@@ -1,11 +1,13 @@
-// The record reader: whether the fields of a record are in their ranges, and the length of a valid record. A record is
-// handed in as the part of the table that starts at its kind byte; what follows the record is not looked at.
+// The record reader: whether the fields of a record are in their ranges, and the length of a valid record. What may be one
+// is handed in as the part of the table that starts at its kind byte; what follows the record is not looked at.
 #![tactic(auto)]
 
-ghost use Rattle.std.specs.Prelude.{◌≡◌, ◌/◌, ◌%◌, ◌^◌, ◌<◌};
+ghost use Rattle.std.specs.Prelude.{◌≡◌, ◌/◌, ◌%◌, ◌^◌, ◌<◌, IfNone, IfSome};
 ghost use Rattle.model.specs.Mappings.{mapping, Held, fields_in_range};
 ghost use Rattle.valid_records.specs.Masks.{mask_at};
 ghost use Rattle.valid_records.specs.Lengths.{length_at};
+
+use mappings::Record;
 
 // Bits that must be 0: of a record's first eight bytes, and of its next eight.
 #[derive(Clone, Copy)]
@@ -13,6 +15,7 @@ struct Mask(u64, u64);
 
 // The masks, five for each kind from 1 on, by span. Where the kind may not have the span, the mask is that of the kind byte,
 // which is not 0. The compiler makes a table of the match; an array it would store anew at each call.
+#[tactic(auto, unfolding(crate::specs::Masks::mask, kinds::specs::Places::place_of, model::specs::Layouts::body_of, model::specs::Mappings::linear, model::specs::Mappings::guest_physical, model::specs::Mappings::combined, model::specs::Mappings::structure_cache, model::specs::Mappings::wide, model::specs::Mappings::global_marked,),)]
 fn mask_at(i: u64) -> Mask
     requires { i < 50 }
     ensures { (result.0 ≡ mask_at i % 2 ^ 64) × (result.1 ≡ mask_at i / 2 ^ 64) }
@@ -78,40 +81,46 @@ fn mask_at(i: u64) -> Mask
         47 => Mask(0xFFFF_00F0_0000_0000, 0xE000_0003),
         48 => Mask(0xFFFF_00F0_0000_0000, 0xE000_07FF),
         49 => Mask(0xFFFF_00F0_0000_0000, 0xE00F_FFFF),
-        _ => Mask(0xFF, 0),
+        _ => unreachable!(),
     }
 }
 
 // The fields of the record at the front are in their ranges: its first sixteen bytes, which hold all that have one, have
 // no bit of the mask of its kind and span.
+// Kept: a part, and not a `Record`. A proof knows that the items of a parameter are bytes, but not those of a struct's slice.
+#[tactic(auto, using(crate::proofs::Laws::Masks::in_ranges))]
 fn is_in_ranges(part: &[u8]) -> bool
     requires { Held part.now }
     ensures { result ≡ fields_in_range (mapping part.now) }
 {
-    let span = mappings::span(part);
+    let record = Record { bytes: part };
+    let span = record.span();
     if 4 < span {
         return false;
     }
-    let i = 5 * mappings::kind(part) + span - 5;
+    let i = 5 * record.kind() + span - 5;
     let mask = mask_at(i);
-    (numbers::number8(part, 0) & mask.0 == 0) & (numbers::number8(part, 8) & mask.1 == 0)
+    (numbers::number::<8>(part, 0) & mask.0 == 0) & (numbers::number::<8>(part, 8) & mask.1 == 0)
 }
 
-// The length of the valid record of a linear width that starts at the front; 0 where none starts there. Any width but 57
-// is read as 48.
-pub fn length_at(width: u64, part: &[u8]) -> usize
-    ensures { result ≡ length_at width part.now }
+// The length of the valid record of a linear width that starts at the front; none where none starts there. Any width but
+// 57 is read as 48.
+#[tactic(auto, using(crate::proofs::Laws::Lengths::lengths))]
+pub fn length_at(width: u64, part: &[u8]) -> Option<usize>
+    ensures none { IfNone result (length_at width part.now ≡ 0) }
+    ensures some { IfSome result (λ n. (0 < n) × (n ≡ length_at width part.now)) }
 {
-    if part.len() == 0 {
-        return 0;
-    }
-    let kind = numbers::number1(part, 0);
+    let kind = numbers::first_byte(part);
     if !kinds::is_mapping_at(width, kind) {
-        return 0;
+        return None;
     }
     let length = kinds::length_of_mapping(kind);
     if part.len() < length {
-        return 0;
+        return None;
     }
-    if is_in_ranges(part) { length } else { 0 }
+    if is_in_ranges(part) {
+        Some(length)
+    } else {
+        None
+    }
 }

@@ -1,6 +1,6 @@
 -- Rows about walks (document 02, Ask 13), all under one statement. Their memories are made up: a few entries by physical
 -- address, and nothing else is inside.
-use Rattle.std.specs.Prelude.{ℕ, zero, suc, ◌+◌, ◌-◌, ◌^◌, Bool, true, false, cond, ◌||◌, List, [], ◌∷◌, ◌++◌, map, ◌≡◌, refl, eqb, replicate}
+use Rattle.std.specs.Prelude.{ℕ, zero, suc, ◌+◌, ◌-◌, ◌^◌, Bool, true, false, cond, ◌||◌, List, [], ◌∷◌, ◌++◌, map, Result, Ok, Err, ◌≡◌, refl, eqb, replicate}
 use Rattle.model.specs.declared.Context.{Context}
 use Rattle.model.specs.declared.Place.TheVariants.{Root}
 use Rattle.model.specs.Bits.{bits, bytes}
@@ -8,9 +8,10 @@ use Rattle.model.specs.Context.{in_range}
 use Rattle.model.specs.Events.{canonical}
 use Rattle.model.specs.Answers.{first, eptp_rule}
 use Rattle.walks.specs.declared.Translation.{Translation}
-use Rattle.walks.specs.declared.Ending.TheVariants.{Translated, ContextOutOfRange, BadEptp, NotCanonical, Absent, TooHigh, Outside}
-use Rattle.walks.specs.declared.Walked.{Walked}
-use Rattle.walks.specs.Walks.{Memory, memory, index, spot, ended, ept_entry, ept_from, ept_walk, translation, final_from, guest_entry, through_ept, guest_from, walk_in, combined_record, record_of, walk_of, ending_values}
+use Rattle.walks.specs.declared.Ground.TheVariants.{ContextOutOfRange, BadEptp, NotCanonical, Absent, TooHigh, Outside}
+use Rattle.walks.specs.declared.Stopped.{Stopped}
+use Rattle.walks.specs.declared.Found.{Found}
+use Rattle.walks.specs.Walks.{Memory, memory, index, spot, stopped, ended, ept_entry, ept_from, ept_walk, translation, final_from, guest_entry, through_ept, guest_from, walk_in, combined_record, record_of, walk_of, ending_values}
 
 -- the manual's bits of an index
 index_4 : (a : ℕ) → index 4 a ≡ bits 47 39 a
@@ -103,13 +104,13 @@ ept_page guest zero = (0x2008, 0x3007) ∷ (directory_entry guest, 0x4007) ∷ (
 ept_page guest (suc zero) = (0x2008, 0x3007) ∷ (directory_entry guest, 0x90203087) ∷ []
 ept_page guest (suc (suc n)) = (0x2008, 0x80003087) ∷ []
 
-pair : ℕ → ℕ → Walked
+pair : ℕ → ℕ → Result Found Stopped
 pair guest ept = walk_in (of_list (front ++ guest_page guest ++ ept_page guest ept)) (context 1 48) root eptp address
 
-translated : ℕ → ℕ → ℕ → ℕ → Walked
-translated span page frame read = ended (Translated (record { span = span; page = page; frame = frame; global = 1 })) read
+translated : ℕ → ℕ → ℕ → ℕ → Result Found Stopped
+translated span page frame read = ended (Ok (record { span = span; page = page; frame = frame; global = 1 })) read
 
-walked : List (ℕ × ℕ) → Walked
+walked : List (ℕ × ℕ) → Result Found Stopped
 walked xs = walk_in (of_list xs) (context 1 48) root eptp address
 
 found : Translation
@@ -131,48 +132,48 @@ record Rows : Type 0 where
   -- the record, of VPID 5 and PCID 1; and none
   bytes_of_record : (walk_of (of_list small) (context 1 57) root eptp 5 address).«record»
       ≡ 3 ∷ 5 ∷ 0 ∷ 1 ∷ 0 ∷ 1 ∷ 0 ∷ 0x89 ∷ 0x67 ∷ 0x45 ∷ 0xF3 ∷ 6 ∷ 0xDE ∷ 0xBC ∷ 0xA ∷ 0 ∷ 0 ∷ 1 ∷ 0 ∷ 0 ∷ 0 ∷ 0 ∷ []
-  no_record : map (record_of 5 1 1) (ContextOutOfRange ∷ BadEptp 5 ∷ NotCanonical ∷ Absent (spot 1 2 9) ∷ TooHigh (spot 1 2 9) ∷ Outside (spot 1 2 9) ∷ [])
+  no_record : map (record_of 5 1 1) (map Err (ContextOutOfRange ∷ BadEptp 5 ∷ NotCanonical ∷ Absent (spot 1 2 9) ∷ TooHigh (spot 1 2 9) ∷ Outside (spot 1 2 9) ∷ []))
       ≡ replicate 6 (replicate 22 0)
   -- the grounds before the walk, each before the next
-  out_of_range : walk_in (of_list []) (context 4096 48) root 0x101F (2 ^ 47) ≡ ended ContextOutOfRange 0
-  bad_eptp : walk_in (of_list []) (context 1 57) root 0x101F (2 ^ 47) ≡ ended (BadEptp 1) 0
+  out_of_range : walk_in (of_list []) (context 4096 48) root 0x101F (2 ^ 47) ≡ stopped ContextOutOfRange 0
+  bad_eptp : walk_in (of_list []) (context 1 57) root 0x101F (2 ^ 47) ≡ stopped (BadEptp 1) 0
   -- canonical at 48 bits, at linear width 57 too
-  not_canonical : walk_in (of_list []) (context 1 57) root eptp (2 ^ 47) ≡ ended NotCanonical 0
-  highest : walk_in (of_list []) (context 1 48) root eptp (2 ^ 64 - 1) ≡ ended (Outside (spot 4 4 0x1000)) 0
+  not_canonical : walk_in (of_list []) (context 1 57) root eptp (2 ^ 47) ≡ stopped NotCanonical 0
+  highest : walk_in (of_list []) (context 1 48) root eptp (2 ^ 64 - 1) ≡ stopped (Outside (spot 4 4 0x1000)) 0
   -- an EPT entry that is outside is not counted; one that is absent is
-  ept_outside : walked ((0x1000, 0x2007) ∷ []) ≡ ended (Outside (spot 4 3 0x2000)) 1
-  ept_absent : walked ((0x1000, 0x2007) ∷ (0x2000, 0x3FF8) ∷ []) ≡ ended (Absent (spot 4 3 0x2000)) 2
+  ept_outside : walked ((0x1000, 0x2007) ∷ []) ≡ stopped (Outside (spot 4 3 0x2000)) 1
+  ept_absent : walked ((0x1000, 0x2007) ∷ (0x2000, 0x3FF8) ∷ []) ≡ stopped (Absent (spot 4 3 0x2000)) 2
   -- a guest entry
-  guest_outside : walked ept_small ≡ ended (Outside (spot 4 0 0x206F0)) 4
-  guest_absent : walked ((0x206F0, 0x11FFE) ∷ ept_small) ≡ ended (Absent (spot 4 0 0x206F0)) 5
+  guest_outside : walked ept_small ≡ stopped (Outside (spot 4 0 0x206F0)) 4
+  guest_absent : walked ((0x206F0, 0x11FFE) ∷ ept_small) ≡ stopped (Absent (spot 4 0 0x206F0)) 5
   -- the final address: EPT has no entry for its page
-  final_absent : walked ((0x40A0, 0xABCDE000) ∷ small) ≡ ended (Absent (spot 0 1 0x40A0)) 24
+  final_absent : walked ((0x40A0, 0xABCDE000) ∷ small) ≡ stopped (Absent (spot 0 1 0x40A0)) 24
   -- 2^48 or more: what a guest entry holds, the root by its bits 63:48, and the final address
-  high_table : walked ((0x206F0, 2 ^ 48 + 1) ∷ small) ≡ ended (TooHigh (spot 3 0 0x1000000000688)) 5
-  high_root : walk_in (of_list small) (context 1 48) (2 ^ 52) eptp address ≡ ended (TooHigh (spot 4 0 0x100000000006F0)) 0
-  high_page : walked ((0x23C48, 2 ^ 51 + 1) ∷ small) ≡ ended (TooHigh (spot 0 0 0x8000000000ABC)) 20
+  high_table : walked ((0x206F0, 2 ^ 48 + 1) ∷ small) ≡ stopped (TooHigh (spot 3 0 0x1000000000688)) 5
+  high_root : walk_in (of_list small) (context 1 48) (2 ^ 52) eptp address ≡ stopped (TooHigh (spot 4 0 0x100000000006F0)) 0
+  high_page : walked ((0x23C48, 2 ^ 51 + 1) ∷ small) ≡ stopped (TooHigh (spot 0 0 0x8000000000ABC)) 20
   -- bits 63:52 of an entry are no address bits, and bit 7 is no large page's at the top level and at the last
   other_bits : walked ((0x1000, 2 ^ 63 + 2 ^ 52 + 0x2087) ∷ (0x40A0, 2 ^ 63 + 0xABCDE187) ∷ (0x206F0, 2 ^ 63 + 0x11181) ∷ (0x23C48, 2 ^ 52 + 0x14181) ∷ small)
       ≡ translated 0 0x6F3456789 0xABCDE 24
   -- an EPT entry may hold any physical address: the next read is outside the image
-  high_ept : walked ((0x1000, 2 ^ 48 + 7) ∷ small) ≡ ended (Outside (spot 4 3 (2 ^ 48))) 1
+  high_ept : walked ((0x1000, 2 ^ 48 + 7) ∷ small) ≡ stopped (Outside (spot 4 3 (2 ^ 48))) 1
   -- a global mark of another than the last guest entry is none
   upper_mark : walked ((0x206F0, 0x11101) ∷ (0x23C48, 0x14001) ∷ small)
-      ≡ ended (Translated (record { span = 0; page = 0x6F3456789; frame = 0xABCDE; global = 0 })) 24
+      ≡ ended (Ok (record { span = 0; page = 0x6F3456789; frame = 0xABCDE; global = 0 })) 24
   -- a frame of 2^39 with N = 40, and a linear address of the upper half
   high_frame : walk_in (of_list ((0x40A0, 2 ^ 51 + 7) ∷ small)) narrow root eptp address ≡ translated 0 0x6F3456789 (2 ^ 39) 24
   upper_half : walk_in (of_list ((0x20EF0, 0x11001) ∷ small)) (context 1 48) root eptp 0xFFFFEF3456789ABC ≡ translated 0 0xEF3456789 0xABCDE 24
   -- an EPT entry is present with any of bits 2:0; no EPT entry's bit 8 makes a translation global
   present : walked ((0x1000, 0x2001) ∷ (0x2000, 0x3002) ∷ (0x3000, 0x4004) ∷ (0x40A0, 0xABCDE104) ∷ (0x23C48, 0x14001) ∷ small)
-      ≡ ended (Translated (record { span = 0; page = 0x6F3456789; frame = 0xABCDE; global = 0 })) 24
+      ≡ ended (Ok (record { span = 0; page = 0x6F3456789; frame = 0xABCDE; global = 0 })) 24
   -- the endings as numbers
-  numbers : map ending_values (Translated found ∷ ContextOutOfRange ∷ NotCanonical ∷ [])
+  numbers : map ending_values (Ok found ∷ Err ContextOutOfRange ∷ Err NotCanonical ∷ [])
       ≡ record { number = 0; rule = 0; guest_level = 0; ept_level = 0; address = 0 }
       ∷ record { number = 1; rule = 0; guest_level = 0; ept_level = 0; address = 0 }
       ∷ record { number = 3; rule = 0; guest_level = 0; ept_level = 0; address = 0 }
       ∷ []
-  rule : ending_values (BadEptp 5) ≡ record { number = 2; rule = 5; guest_level = 0; ept_level = 0; address = 0 }
-  places : map ending_values (Absent (spot 1 2 9) ∷ TooHigh (spot 1 2 9) ∷ Outside (spot 1 2 9) ∷ [])
+  rule : ending_values (Err (BadEptp 5)) ≡ record { number = 2; rule = 5; guest_level = 0; ept_level = 0; address = 0 }
+  places : map ending_values (Err (Absent (spot 1 2 9)) ∷ Err (TooHigh (spot 1 2 9)) ∷ Err (Outside (spot 1 2 9)) ∷ [])
       ≡ record { number = 4; rule = 0; guest_level = 1; ept_level = 2; address = 9 }
       ∷ record { number = 5; rule = 0; guest_level = 1; ept_level = 2; address = 9 }
       ∷ record { number = 6; rule = 0; guest_level = 1; ept_level = 2; address = 9 }

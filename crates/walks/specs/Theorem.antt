@@ -1,7 +1,7 @@
 -- A walk reads at most 24 entries. The record of a translation is a valid one of 22 bytes, with the VPID and the EP4TA
 -- that were given and the context's PCID. In a guest with these tags, at linear width 48, a step accepts its creation and
 -- a lookup of the address shows it: document 02, Ask 13.
-use Rattle.std.specs.Prelude.{ℕ, ◌≤◌, true, false, List, [], ◌∷◌, ◌≡◌, length}
+use Rattle.std.specs.Prelude.{ℕ, ◌≤◌, true, false, List, [], ◌∷◌, Ok, ◌≡◌, length}
 use Rattle.model.specs.declared.Context.{Context}
 use Rattle.model.specs.declared.Place.TheVariants.{Guest}
 use Rattle.model.specs.declared.Ept.TheVariants.{On}
@@ -14,7 +14,6 @@ use Rattle.model.specs.Answers.{valid_table, no_room, answer}
 use Rattle.model.specs.Lookups.{usable_records, lookup}
 use Rattle.laws.specs.Mappings.{Valid}
 use Rattle.walks.specs.declared.Translation.{Translation}
-use Rattle.walks.specs.declared.Ending.TheVariants.{Translated}
 use Rattle.walks.specs.Walks.{Memory, walk_of}
 
 -- "never more than 24", of any memory
@@ -56,5 +55,5 @@ pub record Cacheable (c : Context) (vpid ep4ta address : ℕ) (t : Translation) 
 abbrev pub WalkCacheable : Type 0
 WalkCacheable = (m : Memory) (c : Context) (root eptp vpid address : ℕ) (t : Translation)
     → vpid ≤ 65535
-    → (walk_of m c root eptp vpid address).ending ≡ Translated t
+    → (walk_of m c root eptp vpid address).ending ≡ Ok t
     → Cacheable c vpid (ep4ta_of eptp) address t (walk_of m c root eptp vpid address).«record»

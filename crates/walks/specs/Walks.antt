@@ -1,7 +1,7 @@
 -- Document 02, Ask 13: "Work out what may be cached". A walk of the guest's four levels, each address through EPT's four.
 -- Levels are numbered as the manual does: 4 is the PML4, 3 the PDPT, 2 the page directory, 1 the page table. Level 0 is
 -- no table any more: the address of a page is known.
-use Rattle.std.specs.Prelude.{ℕ, zero, suc, min, ◌+◌, ◌-◌, ◌*◌, ◌/◌, ◌%◌, ◌^◌, Bool, cond, not, ◌&&◌, ◌||◌, List, ◌++◌, eqb, leb, length, replicate}
+use Rattle.std.specs.Prelude.{ℕ, zero, suc, min, ◌+◌, ◌-◌, ◌*◌, ◌/◌, ◌%◌, ◌^◌, Bool, cond, not, ◌&&◌, ◌||◌, List, ◌++◌, Result, Ok, Err, eqb, leb, length, replicate}
 use Rattle.model.specs.declared.Context.{Context}
 use Rattle.model.specs.Bits.{bits, bit, number, bytes}
 use Rattle.model.specs.Context.{in_range}
@@ -11,12 +11,11 @@ use Rattle.model.specs.Scopes.{ep4ta_of}
 use Rattle.model.specs.Answers.{eptp_rule}
 use Rattle.walks.specs.declared.Spot.{Spot}
 use Rattle.walks.specs.declared.Translation.{Translation}
-use Rattle.walks.specs.declared.Ending.{Ending}
-use Rattle.walks.specs.declared.Ending.TheVariants.{Translated, ContextOutOfRange, BadEptp, NotCanonical, Absent, TooHigh, Outside}
-use Rattle.walks.specs.declared.Walked.{Walked}
+use Rattle.walks.specs.declared.Ground.{Ground}
+use Rattle.walks.specs.declared.Ground.TheVariants.{ContextOutOfRange, BadEptp, NotCanonical, Absent, TooHigh, Outside}
+use Rattle.walks.specs.declared.Stopped.{Stopped}
 use Rattle.walks.specs.declared.Physical.{Physical}
-use Rattle.walks.specs.declared.Through.{Through}
-use Rattle.walks.specs.declared.Through.TheVariants.{Reached, Stopped}
+use Rattle.walks.specs.declared.Found.{Found}
 use Rattle.walks.specs.declared.Outcome.{Outcome}
 use Rattle.walks.specs.declared.Values.{Values}
 
@@ -76,49 +75,63 @@ values number rule at =
       address = at.address;
     }
 
-abbrev pub ending_values : Ending → Values
-ending_values (Translated t) = values 0 0 (spot 0 0 0)
-ending_values ContextOutOfRange = values 1 0 (spot 0 0 0)
-ending_values (BadEptp rule) = values 2 rule (spot 0 0 0)
-ending_values NotCanonical = values 3 0 (spot 0 0 0)
-ending_values (Absent at) = values 4 0 at
-ending_values (TooHigh at) = values 5 0 at
-ending_values (Outside at) = values 6 0 at
+abbrev pub ending_values : Result Translation Ground → Values
+ending_values (Ok t) = values 0 0 (spot 0 0 0)
+ending_values (Err ContextOutOfRange) = values 1 0 (spot 0 0 0)
+ending_values (Err (BadEptp rule)) = values 2 rule (spot 0 0 0)
+ending_values (Err NotCanonical) = values 3 0 (spot 0 0 0)
+ending_values (Err (Absent at)) = values 4 0 at
+ending_values (Err (TooHigh at)) = values 5 0 at
+ending_values (Err (Outside at)) = values 6 0 at
 
-abbrev pub ended : Ending → ℕ → Walked
-ended ending read = record { ending = ending; read = read }
+-- a ground is met, with so many entries read
+abbrev pub stopped : {T : Type 0} → Ground → ℕ → Result T Stopped
+stopped met read = Err (record { met = met; read = read })
+
+-- a walk ends with a translation, or at a ground, with so many entries read
+abbrev pub ended : Result Translation Ground → ℕ → Result Found Stopped
+ended (Ok t) read = Ok (record { translation = t; read = read })
+ended (Err met) read = stopped met read
+
+abbrev pub ending_of : Result Found Stopped → Result Translation Ground
+ending_of (Ok f) = Ok f.translation
+ending_of (Err s) = Err s.met
+
+abbrev pub read_of : Result Found Stopped → ℕ
+read_of (Ok f) = f.read
+read_of (Err s) = s.read
 
 -- a page of a span at a base is found in EPT
-abbrev pub reached : ℕ → ℕ → ℕ → ℕ → Through
-reached base span address read = Reached (record { address = in_page base span address; span = span; read = read })
+abbrev pub reached : ℕ → ℕ → ℕ → ℕ → Physical
+reached base span address read = record { address = in_page base span address; span = span; read = read }
 
 -- a level's EPT entry, at a physical address: it is read, and what it holds comes next. `guest` is the guest's
 -- level, for which an address goes through EPT; so many entries were read before. "Report the entries read, a refused
 -- outside read not counted".
-unfoldable pub ept_entry : (ℕ → Through) → Memory → ℕ → ℕ → ℕ → ℕ → ℕ → Through
+unfoldable pub ept_entry : (ℕ → Result Physical Stopped) → Memory → ℕ → ℕ → ℕ → ℕ → ℕ → Result Physical Stopped
 ept_entry go m guest address level at read =
-    cond (not (m.inside at)) (Stopped (ended (Outside (spot guest level at)) read))
-    (cond (not (ept_present (m.entry at))) (Stopped (ended (Absent (spot guest level at)) (read + 1)))
-    (cond (large level (m.entry at)) (reached (held (m.entry at)) (level - 1) address (read + 1)) (go (held (m.entry at)))))
+    cond (not (m.inside at)) (stopped (Outside (spot guest level at)) read)
+    (cond (not (ept_present (m.entry at))) (stopped (Absent (spot guest level at)) (read + 1))
+    (cond (large level (m.entry at)) (Ok (reached (held (m.entry at)) (level - 1) address (read + 1))) (go (held (m.entry at)))))
 
 -- An address goes through EPT, with so many levels left from the table at a base; at level 0 a 4-KByte page is
 -- there.
-unfoldable pub ept_from : Memory → ℕ → ℕ → ℕ → ℕ → ℕ → Through
-ept_from m guest address zero base read = reached base 0 address read
+unfoldable pub ept_from : Memory → ℕ → ℕ → ℕ → ℕ → ℕ → Result Physical Stopped
+ept_from m guest address zero base read = Ok (reached base 0 address read)
 ept_from m guest address (suc n) base read =
     ept_entry (λ next. ept_from m guest address n next (read + 1)) m guest address (suc n) (entry_place base (suc n) address) read
 
 -- a guest-physical address through EPT, whose first table is at the physical address `ept`: "2^48 or more" is a ground,
 -- before EPT is read
-unfoldable pub ept_walk : Memory → ℕ → ℕ → ℕ → ℕ → Through
+unfoldable pub ept_walk : Memory → ℕ → ℕ → ℕ → ℕ → Result Physical Stopped
 ept_walk m ept guest address read =
     cond (guest_physical_in_range address) (ept_from m guest address 4 ept read)
-    (Stopped (ended (TooHigh (spot guest 0 address)) read))
+    (stopped (TooHigh (spot guest 0 address)) read)
 
--- a walk goes on from the physical address, or has ended
-abbrev pub then : Through → (Physical → Walked) → Walked
-then (Reached p) go = go p
-then (Stopped w) go = w
+-- a walk goes on from the physical address, or has stopped
+abbrev pub then : Result Physical Stopped → (Physical → Result Found Stopped) → Result Found Stopped
+then (Ok p) go = go p
+then (Err s) go = Err s
 
 -- "the combined translation ..., with the smaller of the two sizes, its page and frame rounded down to that size,
 -- global as bit 8 of the last guest entry"
@@ -136,27 +149,27 @@ translation address span global p =
 
 -- "Each guest entry's address goes through EPT before it is read, and so does the final one." The final one, in a page
 -- of a span at a base of guest-physical addresses.
-unfoldable pub final_from : Memory → ℕ → ℕ → ℕ → ℕ → ℕ → ℕ → Walked
+unfoldable pub final_from : Memory → ℕ → ℕ → ℕ → ℕ → ℕ → ℕ → Result Found Stopped
 final_from m ept address base span global read =
     then (ept_walk m ept 0 (in_page base span address) read)
-    (λ p. ended (Translated (translation address span global p)) p.read)
+    (λ p. ended (Ok (translation address span global p)) p.read)
 
 -- a level's guest entry, at a physical address: it is read, and the walk goes on from what it holds
-unfoldable pub guest_entry : (ℕ → ℕ → ℕ → Walked) → Memory → ℕ → ℕ → ℕ → ℕ → ℕ → Walked
+unfoldable pub guest_entry : (ℕ → ℕ → ℕ → Result Found Stopped) → Memory → ℕ → ℕ → ℕ → ℕ → ℕ → Result Found Stopped
 guest_entry go m ept address level at read =
-    cond (not (m.inside at)) (ended (Outside (spot level 0 at)) read)
-    (cond (not (guest_present (m.entry at))) (ended (Absent (spot level 0 at)) (read + 1))
+    cond (not (m.inside at)) (stopped (Outside (spot level 0 at)) read)
+    (cond (not (guest_present (m.entry at))) (stopped (Absent (spot level 0 at)) (read + 1))
     (cond (large level (m.entry at)) (final_from m ept address (held (m.entry at)) (level - 1) (bits 8 8 (m.entry at)) (read + 1))
     (go (held (m.entry at)) (bits 8 8 (m.entry at)) (read + 1))))
 
 -- a level's guest entry, at a guest-physical address: it goes through EPT, and the walk goes on from there
-unfoldable pub through_ept : (ℕ → ℕ → ℕ → Walked) → Memory → ℕ → ℕ → ℕ → ℕ → ℕ → Walked
+unfoldable pub through_ept : (ℕ → ℕ → ℕ → Result Found Stopped) → Memory → ℕ → ℕ → ℕ → ℕ → ℕ → Result Found Stopped
 through_ept go m ept address level at read =
     then (ept_walk m ept level at read) (λ p. guest_entry go m ept address level p.address p.read)
 
 -- The walk of a linear address with so many of the guest's levels left from the table at a base, a guest-physical
 -- address; at level 0 a 4-KByte page is there. The global mark is the last guest entry's.
-unfoldable pub guest_from : Memory → ℕ → ℕ → ℕ → ℕ → ℕ → ℕ → Walked
+unfoldable pub guest_from : Memory → ℕ → ℕ → ℕ → ℕ → ℕ → ℕ → Result Found Stopped
 guest_from m ept address zero base global read = final_from m ept address base 0 global read
 guest_from m ept address (suc n) base global read =
     through_ept (λ next mark count. guest_from m ept address n next mark count) m ept address (suc n)
@@ -168,11 +181,11 @@ root_base root = root / 4096 * 4096
 
 -- "the first ground met: context out of range, bad EPTP, address not canonical at 48 bits", and then the walk. The EPT
 -- tables start at the EPTP's EP4TA.
-unfoldable pub walk_in : Memory → Context → ℕ → ℕ → ℕ → Walked
+unfoldable pub walk_in : Memory → Context → ℕ → ℕ → ℕ → Result Found Stopped
 walk_in m c root eptp address =
-    cond (not (in_range c)) (ended ContextOutOfRange 0)
-    (cond (not (eqb (eptp_rule c eptp) 0)) (ended (BadEptp (eptp_rule c eptp)) 0)
-    (cond (not (canonical 48 address)) (ended NotCanonical 0)
+    cond (not (in_range c)) (stopped ContextOutOfRange 0)
+    (cond (not (eqb (eptp_rule c eptp) 0)) (stopped (BadEptp (eptp_rule c eptp)) 0)
+    (cond (not (canonical 48 address)) (stopped NotCanonical 0)
     (guest_from m (4096 * ep4ta_of eptp) address 4 (root_base root) 0 0)))
 
 -- "a kind 3 record": "VPID 2, PCID 2, global 1, span 1, page 5, frame 5, then EP4TA 5"
@@ -184,20 +197,15 @@ combined_record vpid pcid ep4ta t =
     ++ (bytes 1 t.global ++ (bytes 1 t.span ++ (bytes 5 t.page ++ (bytes 5 t.frame ++ bytes 5 ep4ta))))))
 
 -- the record of a walk: all 0 where it met a ground
-unfoldable pub record_of : ℕ → ℕ → ℕ → Ending → List ℕ
-record_of vpid pcid ep4ta (Translated t) = combined_record vpid pcid ep4ta t
-record_of vpid pcid ep4ta ContextOutOfRange = replicate 22 0
-record_of vpid pcid ep4ta (BadEptp rule) = replicate 22 0
-record_of vpid pcid ep4ta NotCanonical = replicate 22 0
-record_of vpid pcid ep4ta (Absent at) = replicate 22 0
-record_of vpid pcid ep4ta (TooHigh at) = replicate 22 0
-record_of vpid pcid ep4ta (Outside at) = replicate 22 0
+unfoldable pub record_of : ℕ → ℕ → ℕ → Result Translation Ground → List ℕ
+record_of vpid pcid ep4ta (Ok t) = combined_record vpid pcid ep4ta t
+record_of vpid pcid ep4ta (Err met) = replicate 22 0
 
 -- What a walk answers: "with capability, N and PCID from a context". "Reserved bits and access rights are not checked."
 unfoldable pub walk_of : Memory → Context → ℕ → ℕ → ℕ → ℕ → Outcome
 walk_of m c root eptp vpid address =
     record {
-      ending = (walk_in m c root eptp address).ending;
-      read = (walk_in m c root eptp address).read;
-      «record» = record_of vpid c.pcid (ep4ta_of eptp) (walk_in m c root eptp address).ending;
+      ending = ending_of (walk_in m c root eptp address);
+      read = read_of (walk_in m c root eptp address);
+      «record» = record_of vpid c.pcid (ep4ta_of eptp) (ending_of (walk_in m c root eptp address));
     }

@@ -7,7 +7,7 @@ use Rattle.model.specs.Layouts.{kind_of, mapping_kind, body_of, length_of, field
 use Rattle.model.specs.Mappings.{mapping, linear, guest_physical, combined, structure_cache, wide, other_width, global_marked, fields_in_range, starts_record, record_length}
 use Rattle.model.specs.Tables.{joined, cut, records_within, records, whole, of_width}
 use Rattle.model.specs.Answers.{first, valid_table}
-use Rattle.laws.specs.Lists.{none, every_repeated, map_repeated}
+use Rattle.laws.specs.Lists.{every_repeated, map_repeated}
 use Rattle.laws.specs.Mappings.{Valid}
 use Rattle.laws.specs.Tables.{records_joined, joined_whole, length_repeated}
 use Rattle.laws.specs.Answers.{valid_table_made}

@@ -96,9 +96,9 @@ fn fit(top: &Path, folder: &str, edit: &str) -> Vec<String> {
     amiss
 }
 
-/// The names of a source's public functions.
+/// The names of a source's public functions and methods.
 fn public_functions(source: &str) -> Vec<&str> {
-    source.lines().filter_map(public_function).collect()
+    source.lines().map(str::trim_start).filter_map(public_function).collect()
 }
 
 fn public_function(line: &str) -> Option<&str> {

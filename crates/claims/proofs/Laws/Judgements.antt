@@ -1,10 +1,16 @@
 -- A judgement, ground by ground.
-use Rattle.std.specs.Prelude.{ℕ, ◌≤◌, Bool, true, false, cond, not, ◌||◌, List, ◌≡◌, refl, ltb, length}
+use Rattle.std.specs.Prelude.{ℕ, ◌≤◌, Bool, true, false, cond, not, ◌||◌, List, Result, Ok, Err, ◌≡◌, refl, ltb, length}
+use Rattle.std.specs.Result.{is_err}
+use Rattle.std.proofs.lemmas.Bool.{true≢false, false≢true}
+use Rattle.std.proofs.Common.{◌∙◌}
 use borrow.Author.Tests.{eq-eqb, ne_eqb, le-ltb}
 use Rattle.model.specs.declared.Context.{Context}
+use Rattle.model.specs.declared.Refusal.{Refusal}
 use Rattle.model.specs.Tables.{limit, records}
 use Rattle.model.specs.Answers.{first, answer, rule_with, valid_table, stored_grounds}
 use Rattle.model.specs.Steps.{new_table}
+use Rattle.model.specs.Refusals.{answer_of}
+use Rattle.laws.specs.Refusals.{refusal_number_some}
 use Rattle.claims.specs.declared.Judgement.TheVariants.{Accepted, Refused, Malformed, Unmatched}
 use Rattle.claims.specs.Claims.{matched, malformed, judgement}
 use Rattle.claims.specs.Matching.{judged_at}
@@ -19,7 +25,7 @@ unfolding judged_at
 judged_at_record claim at h = rw (ne_eqb at (length claim) h)
 
 -- a claim is malformed where 2 or 3 would be the answer to it as a table
-pub malformed_stored : (c : Context) (claim : List ℕ) → (first (stored_grounds c.linear_width claim) ≡ 0 → ⊥) → malformed c claim ≡ true
+malformed_stored : (c : Context) (claim : List ℕ) → (first (stored_grounds c.linear_width claim) ≡ 0 → ⊥) → malformed c claim ≡ true
 unfolding malformed first
 malformed_stored c claim some = go (ltb limit (length claim)) (not (valid_table c.linear_width claim)) some
   where
@@ -27,6 +33,14 @@ malformed_stored c claim some = go (ltb limit (length claim)) (not (valid_table 
     go true bad h = refl
     go false true h = refl
     go false false h = absurd (h refl)
+
+pub malformed_refused : (c : Context) (claim : List ℕ) (r : Result ℕ Refusal) → answer_of r ≡ first (stored_grounds c.linear_width claim) → is_err r ≡ true → malformed c claim ≡ true
+malformed_refused c claim (Ok n) is h = absurd (false≢true h)
+malformed_refused c claim (Err why) is h = malformed_stored c claim (λ z. refusal_number_some why (is ∙ z))
+
+pub answer_of_ok : {A : Type 0} (r : Result A Refusal) → is_err r ≡ false → answer_of r ≡ 0
+answer_of_ok (Ok a) h = refl
+answer_of_ok (Err why) h = absurd (true≢false h)
 
 pub malformed_valid : (c : Context) (claim : List ℕ) → length claim ≤ limit → valid_table c.linear_width claim ≡ true → malformed c claim ≡ false
 unfolding malformed

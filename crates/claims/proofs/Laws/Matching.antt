@@ -1,6 +1,7 @@
--- A claim matched record by record; the loop of `pass_left`: what holds at each position of its walk over the table, how a
--- record carries it on, and what it says at the end; and what an event adds.
-use Rattle.std.specs.Prelude.{ℕ, ◌+◌, ◌-◌, ◌≤◌, ◌<◌, Bool, cond, List, [], ◌∷◌, ◌++◌, ◌≡◌, eqb, take, drop}
+-- A claim matched record by record; the loop of `pass_left`: what holds before each record of the table, how a record carries
+-- it on, and what it says at the end; and what an event adds.
+use Rattle.std.specs.Prelude.{ℕ, ◌+◌, ◌≤◌, ◌<◌, Bool, cond, List, [], ◌∷◌, ◌++◌, ◌≡◌, eqb, drop, nat_eq}
+use Rattle.std.specs.List.{starts_with}
 use Rattle.std.proofs.Math.Bool.{true, false, not}
 use Rattle.std.proofs.lemmas.Bool.{false≢true, eqb-false}
 use Rattle.std.proofs.Math.Path.{refl, ap}
@@ -20,13 +21,13 @@ use Rattle.laws.specs.Lists.{every_head}
 use Rattle.laws.specs.Mappings.{Valid}
 use Rattle.laws.specs.Events.{creation_valid}
 use Rattle.laws.specs.Steps.{records_new_table}
-use Rattle.laws.specs.Tables.{Next, next_of_length, whole_starts, whole_rest, records_valid, records_drop_end, rest_of_drop, only_true, only_false}
+use Rattle.laws.specs.Tables.{Next, next_of_length, whole_starts, whole_rest, records_valid, records_drop_end, only_true, only_false}
 use Rattle.filters.specs.Filters.{left}
 use Rattle.tally_rows.specs.Rows.{same}
 use Rattle.tally_rows.proofs.Laws.Compared.{same_refl, same_true}
 use Rattle.claims.specs.declared.Judgement.TheVariants.{Accepted, Unmatched}
 use Rattle.claims.specs.Claims.{matched}
-use Rattle.claims.specs.Matching.{starts_with, Passes, judged_at, PassesCreation}
+use Rattle.claims.specs.Matching.{Passes, judged_at, PassesCreation}
 use Rattle.claims.proofs.Laws.Bytes.{record_length_starts_with, records_starts_with, starts_with_first}
 
 -- no claimed records are matched by any
@@ -46,7 +47,7 @@ matched_other at r l rs left h = rw h
 -- a claim from a position on, and a record that is left
 module _ (claim l : List ℕ) (at : ℕ) (valid : Valid l) (left : List (List ℕ)) where
   -- the claim goes on with it: it is matched
-  module _ (h : starts_with (drop at claim) l ≡ true) where
+  module _ (h : starts_with nat_eq (drop at claim) l ≡ true) where
     pub claimed_next : Next claim at (length l)
     claimed_next = next_of_length claim at (length l) (record_length_starts_with (drop at claim) l valid h) valid.filled
 
@@ -57,7 +58,7 @@ module _ (claim l : List ℕ) (at : ℕ) (valid : Valid l) (left : List (List �
         ∙ ap (λ bytes. matched (at + length l) (records bytes) left) (drop-drop (length l) at claim)
 
   -- it does not: the record is passed over
-  pub matched_past : starts_with (drop at claim) l ≡ false → matched at (records (drop at claim)) (l ∷ left) ≡ matched at (records (drop at claim)) left
+  pub matched_past : starts_with nat_eq (drop at claim) l ≡ false → matched at (records (drop at claim)) (l ∷ left) ≡ matched at (records (drop at claim)) left
   matched_past h = go (records (drop at claim)) refl
     where
       go : (rs : List (List ℕ)) → records (drop at claim) ≡ rs → matched at rs (l ∷ left) ≡ matched at rs left
@@ -65,89 +66,74 @@ module _ (claim l : List ℕ) (at : ℕ) (valid : Valid l) (left : List (List �
       go (r ∷ rs) is = matched_other at r l rs left (other (same r l) refl)
         where
           other : (b : Bool) → same r l ≡ b → same r l ≡ false
-          other true e = absurd (false≢true (sym h ∙ ap (starts_with (drop at claim)) (sym (same_true r l e)) ∙ starts_with_first (drop at claim) r rs is))
+          other true e = absurd (false≢true (sym h ∙ ap (starts_with nat_eq (drop at claim)) (sym (same_true r l e)) ∙ starts_with_first (drop at claim) r rs is))
           other false e = e
 
--- as the code compares them: the rest of the claim, and the part of the table that ends behind the record
-pub starts_with_parts : (claim t : List ℕ) (reached at n : ℕ)
-    → starts_with (take (length claim - reached) (drop reached claim)) (take (at + n - at) (drop at t)) ≡ starts_with (drop reached claim) (take n (drop at t))
-starts_with_parts claim t reached at n = let size : at + n - at ≡ n = omega arith in rw (rest_of_drop, size)
-
 module _ (test : Mapping → Bool) where
-  -- The walk stands at a position of the table, and the claim is matched up to a position of it.
-  pub record Matching (t claim : List ℕ) (at reached : ℕ) : Type 0 where
-    pub table_rest : whole (drop at t) ≡ true
+  -- The records of a rest of the table are still to come, and the claim is matched up to a position of it.
+  pub record Matching (t claim rest : List ℕ) (reached : ℕ) : Type 0 where
     pub inside : reached ≤ length claim
-    pub rest : whole (drop reached claim) ≡ true
+    pub claim_rest : whole (drop reached claim) ≡ true
     pub same : (behind : List (List ℕ))
-        → matched 0 (records claim) (left test t ++ behind) ≡ matched reached (records (drop reached claim)) (left test (drop at t) ++ behind)
+        → matched 0 (records claim) (left test t ++ behind) ≡ matched reached (records (drop reached claim)) (left test rest ++ behind)
 
-  pub matching_start : (t claim : List ℕ) → whole t ≡ true → whole claim ≡ true → Matching t claim 0 0
-  matching_start t claim w v = record { table_rest = w; inside = omega arith; rest = v; same = λ behind. refl }
+  pub matching_start : (t claim : List ℕ) → whole claim ≡ true → Matching t claim t 0
+  matching_start t claim w = record { inside = omega arith; claim_rest = w; same = λ behind. refl }
 
-  module _ {t claim : List ℕ} {at reached : ℕ} (s : Matching t claim at reached) where
-    -- the end of the table
-    pub matching_end : length t ≤ at → Passes test t claim reached
+  module _ {t claim rest : List ℕ} {reached : ℕ} (s : Matching t claim rest reached) where
+    -- no record is to come
+    pub matching_end : records rest ≡ [] → Passes test t claim reached
     unfolding only
-    matching_end end =
+    matching_end none =
         record {
           inside = s.inside;
-          rest = s.rest;
-          same = λ behind. s.same behind ∙ ap (λ rs. matched reached (records (drop reached claim)) (only (λ r. not (test (mapping r))) rs ++ behind)) (records_drop_end t at end);
+          rest = s.claim_rest;
+          same = λ behind. s.same behind ∙ ap (λ rs. matched reached (records (drop reached claim)) (only (λ r. not (test (mapping r))) rs ++ behind)) none;
         }
 
-    module _ {n : ℕ} (next : Next t at n) where
-      here : List ℕ
-      here = take n (drop at t)
+    module _ (r after : List ℕ) (first : records rest ≡ r ∷ records after) where
+      first_valid : Valid r
+      first_valid = every_head (rw first at (records_valid rest))
 
-      here_valid : Valid (take n (drop at t))
-      here_valid = every_head (rw next.split at (records_valid (drop at t)))
-
-      -- the record at the position is dropped
-      pub matching_gone : test (mapping (drop at t)) ≡ true → Matching t claim (at + n) reached
+      -- the next record is dropped
+      pub matching_gone : test (mapping r) ≡ true → Matching t claim after reached
       matching_gone gone =
-          let held : not (test (mapping (take n (drop at t)))) ≡ false = rw (next.same, gone) in
-          let others : left test (drop at t) ≡ left test (drop (at + n) t) =
-          rw (next.split, only_false (λ r. not (test (mapping r))) (take n (drop at t)) (records (drop (at + n) t)) held) in
+          let held : not (test (mapping r)) ≡ false = rw gone in
+          let others : left test rest ≡ left test after = rw (first, only_false (λ r. not (test (mapping r))) r (records after) held) in
           record {
-            table_rest = whole_rest s.table_rest next;
             inside = s.inside;
-            rest = s.rest;
+            claim_rest = s.claim_rest;
             same = λ behind. s.same behind ∙ ap (λ rs. matched reached (records (drop reached claim)) (rs ++ behind)) others;
           }
 
       -- it is left
-      module _ (out : test (mapping (drop at t)) ≡ false) where
-        stays : left test (drop at t) ≡ take n (drop at t) ∷ left test (drop (at + n) t)
+      module _ (out : test (mapping r) ≡ false) where
+        stays : left test rest ≡ r ∷ left test after
         stays =
-            let held : not (test (mapping (take n (drop at t)))) ≡ true = rw (next.same, out) in
-            rw (next.split, only_true (λ r. not (test (mapping r))) (take n (drop at t)) (records (drop (at + n) t)) held)
+            let held : not (test (mapping r)) ≡ true = rw out in
+            rw (first, only_true (λ r. not (test (mapping r))) r (records after) held)
 
         with_behind : (behind : List (List ℕ))
-            → matched 0 (records claim) (left test t ++ behind) ≡ matched reached (records (drop reached claim)) (take n (drop at t) ∷ (left test (drop (at + n) t) ++ behind))
+            → matched 0 (records claim) (left test t ++ behind) ≡ matched reached (records (drop reached claim)) (r ∷ (left test after ++ behind))
         with_behind behind = s.same behind ∙ ap (λ rs. matched reached (records (drop reached claim)) (rs ++ behind)) stays
 
         -- and matched
-        pub matching_matched : starts_with (drop reached claim) (take n (drop at t)) ≡ true → Matching t claim (at + n) (reached + n)
+        pub matching_matched : starts_with nat_eq (drop reached claim) r ≡ true → Matching t claim after (reached + length r)
         matching_matched h =
-            let claimed : Next claim reached n = rw next.size at (claimed_next claim (take n (drop at t)) reached here_valid [] h) in
+            let claimed = claimed_next claim r reached first_valid [] h in
             record {
-              table_rest = whole_rest s.table_rest next;
               inside = claimed.within;
-              rest = whole_rest s.rest claimed;
-              same = λ behind. with_behind behind
-                  ∙ matched_next claim (take n (drop at t)) reached here_valid (left test (drop (at + n) t) ++ behind) h
-                  ∙ ap (λ m. matched (reached + m) (records (drop (reached + m) claim)) (left test (drop (at + n) t) ++ behind)) next.size;
+              claim_rest = whole_rest s.claim_rest claimed;
+              same = λ behind. with_behind behind ∙ matched_next claim r reached first_valid (left test after ++ behind) h;
             }
 
         -- or passed over
-        pub matching_past : starts_with (drop reached claim) (take n (drop at t)) ≡ false → Matching t claim (at + n) reached
+        pub matching_past : starts_with nat_eq (drop reached claim) r ≡ false → Matching t claim after reached
         matching_past h =
             record {
-              table_rest = whole_rest s.table_rest next;
               inside = s.inside;
-              rest = s.rest;
-              same = λ behind. with_behind behind ∙ matched_past claim (take n (drop at t)) reached here_valid (left test (drop (at + n) t) ++ behind) h;
+              claim_rest = s.claim_rest;
+              same = λ behind. with_behind behind ∙ matched_past claim r reached first_valid (left test after ++ behind) h;
             }
 
 -- with no record left, a claim is matched if it is at its end
@@ -189,15 +175,15 @@ module _ (w : ℕ) (e claim : List ℕ) (at : ℕ) (valid : valid_event w e ≡ 
     valid_record : Valid e
     valid_record = creation_valid w e valid is_creation
 
-    pub claimed_creation : starts_with (drop at claim) e ≡ true → Next claim at (length e)
+    pub claimed_creation : starts_with nat_eq (drop at claim) e ≡ true → Next claim at (length e)
     claimed_creation h = claimed_next claim e at valid_record [] h
 
-    pub passes_creation : starts_with (drop at claim) e ≡ true → PassesCreation e claim at (at + length e)
+    pub passes_creation : starts_with nat_eq (drop at claim) e ≡ true → PassesCreation e claim at (at + length e)
     passes_creation h =
         let next = claimed_creation h in
         record { same = ap (matched at (records (drop at claim))) it ∙ matched_next claim e at valid_record [] h ∙ matched_at_end claim (at + length e) next.within (whole_rest rest next) }
 
-    pub passes_no_creation : starts_with (drop at claim) e ≡ false → PassesCreation e claim at at
+    pub passes_no_creation : starts_with nat_eq (drop at claim) e ≡ false → PassesCreation e claim at at
     passes_no_creation h =
         record { same = ap (matched at (records (drop at claim))) it ∙ matched_past claim e at valid_record [] h ∙ matched_at_end claim at inside rest }
 

@@ -5,14 +5,13 @@ use Rattle.std.proofs.Math.Path.{◌≡◌}
 use Rattle.std.proofs.Common.{sym, ap, ◌∙◌, arith, leb-true, ne_eqb}
 use Rattle.model.specs.declared.Context.{Context}
 use Rattle.model.specs.declared.Step.{Step}
-use Rattle.model.specs.declared.Explanation.TheVariants.{Refused, Accepted}
 use Rattle.model.specs.Context.{in_range}
 use Rattle.model.specs.Tables.{limit}
 use Rattle.model.specs.Mappings.{mapping}
 use Rattle.model.specs.Events.{event}
 use Rattle.model.specs.Answers.{first, table_grounds, event_grounds, grounds, answer, rule_with}
 use Rattle.model.specs.Steps.{refused_step}
-use Rattle.model.specs.Reasons.{reason, one_record, explained_answer, explanation, explanation_answer}
+use Rattle.model.specs.Reasons.{reason, one_record, explained_answer, Refused, Accepted, explanation, explanation_answer}
 use Rattle.laws.specs.Reasons.{in_scope_dropped, dropped_in_scope}
 use Rattle.tally_rows.specs.declared.KindCounts.{KindCounts}
 use Rattle.counted_steps.specs.Steps.{counted_answer, counted_stepped}
@@ -21,7 +20,6 @@ use Rattle.counted_steps.proofs.Laws.Accepted.{accepted_matching}
 use Rattle.runs.specs.Book.{book_table, book_answer}
 use Rattle.runs.proofs.Laws.Steps.{by_answer}
 use Rattle.claims.specs.declared.Judgement.{Judgement}
-use Rattle.claims.specs.declared.Judgement
 use Rattle.claims.specs.Claims.{judgement, judgement_values}
 use Rattle.claims.specs.Tally.{ExplainsCountedAlways, Never13}
 use Rattle.claims.proofs.Laws.Theorem.{judge_judges_holds}

@@ -1,17 +1,19 @@
 -- The step beside a tally: with one that matches it is the plain step, and its counts are those of the table after it.
-use Rattle.std.specs.Prelude.{ℕ, ◌<◌, Bool, List, [], ◌∷◌, ◌++◌, ◌≡◌, length}
+use Rattle.std.specs.Prelude.{ℕ, ◌<◌, Bool, List, [], ◌∷◌, ◌++◌, ◌≡◌, Ok, Err, length}
 use Rattle.std.proofs.Math.Bool.{true, false, cond, not, and-eq-true_iff}
 use Rattle.std.proofs.Common.{append_assoc, ap, ◌∙◌, arith}
 use Rattle.std.proofs.Math.Path.{refl, sym}
 use borrow.Author.Tests.{ne_eqb, eqb-true, eqb-false}
 use Rattle.std.proofs.Math.Dec.{eqb}
 use Rattle.model.specs.declared.Context.{Context}
+use Rattle.model.specs.declared.Refusal.{Refusal}
 use Rattle.model.specs.declared.Step.{Step}
 use Rattle.model.specs.Buffers.{put}
 use Rattle.model.specs.Tables.{records}
 use Rattle.model.specs.Events.{event}
 use Rattle.model.specs.Answers.{first, valid_here, table_grounds, event_grounds, no_room, answer, grounds, rule_with}
 use Rattle.model.specs.Steps.{new_table, accepted_step, refused_step, stepped, written}
+use Rattle.model.specs.Refusals.{refusal_number, refusal_rule}
 use Rattle.laws.specs.Answers.{first_append, first_append_some, first_append_none}
 use Rattle.laws.specs.Rules.{table_answer_below_8}
 use Rattle.laws.specs.Tables.{records_valid}
@@ -103,18 +105,13 @@ module _ (kinds : List KindCounts) (pcids : List ℕ) (rs : List (List ℕ)) whe
 -- ---- what a table beside its tally shows
 
 module _ (c : Context) (kinds : List KindCounts) (pcids t e : List ℕ) (room : ℕ) where
-  pub shown_refused : {n : ℕ} → counted_answer c kinds pcids t e room ≡ n → (n ≡ 0 → ⊥) → 0 ≡ rule_with c e n
-      → {r : Shown} → (r.answer ≡ n) × (r.rule ≡ 0) → Shows c kinds pcids t e room r
-  shown_refused is some rule told =
-      record {
-        answer = told.0 ∙ sym is;
-        rule = told.1 ∙ rule ∙ ap (rule_with c e) (sym told.0);
-        passed = λ zero. absurd (some (sym told.0 ∙ zero));
-      }
+  pub shown_refused : (why : Refusal) → counted_answer c kinds pcids t e room ≡ refusal_number why → refusal_rule why ≡ rule_with c e (refusal_number why)
+      → Shows c kinds pcids t e room (Err why)
+  shown_refused why is rule = record { answer = sym is; rule = rule; passed = tt }
 
   -- an accepted event is one for the plain step
-  pub shown_accepted : {r : Shown} → Shows c kinds pcids t e room r → r.answer ≡ 0 → answer c t e room ≡ 0
-  shown_accepted shows zero = sym (counted_answer_matching c kinds pcids t e room (shows.passed zero).match) ∙ sym shows.answer ∙ zero
+  pub shown_accepted : {shown : Shown} → Shows c kinds pcids t e room (Ok shown) → answer c t e room ≡ 0
+  shown_accepted shows = sym (counted_answer_matching c kinds pcids t e room shows.passed.match) ∙ sym shows.answer
 
 -- ---- with a tally that matches, the step is the plain one
 

@@ -39,23 +39,3 @@ module _ (c : Context) (t e : List ℕ) (valid : valid_here c e ≡ true) {cells
       go : (b : Bool) → mapping_kind (kind_of e) ≡ b → Tallied (kept ++ cond b (e ∷ []) []) (cond b (cells_with (mapping e) cells) cells) (cond b (pcids_with (mapping e) pcids) pcids)
       go true is = tallied_with kept [] e (valid_starts e (creation_valid c.linear_width e valid is)) all
       go false is = all
-
--- an event that is no creation adds nothing
-module _ (e : List ℕ) (other : mapping_kind (kind_of e) ≡ false) where
-  pub cells_with_other : (cells : List ℕ) → cells_with_creation e cells ≡ cells
-  unfolding cells_with_creation
-  cells_with_other cells = rw other
-
-  pub pcids_with_other : (pcids : List ℕ) → pcids_with_creation e pcids ≡ pcids
-  unfolding pcids_with_creation
-  pcids_with_other pcids = rw other
-
--- a creation adds itself
-module _ (e : List ℕ) (is : mapping_kind (kind_of e) ≡ true) where
-  pub cells_with_own : (cells : List ℕ) → cells_with_creation e cells ≡ cells_with (mapping e) cells
-  unfolding cells_with_creation
-  cells_with_own cells = rw is
-
-  pub pcids_with_own : (pcids : List ℕ) → pcids_with_creation e pcids ≡ pcids_with (mapping e) pcids
-  unfolding pcids_with_creation
-  pcids_with_own pcids = rw is

@@ -1,6 +1,5 @@
 -- `filter` keeps the loop's invariant: a record that passes ends a run, and is taken off where the records are counted;
 -- any other record lengthens the run. The measure is what is left of the table.
-use Prim.Native.Nat.{◌-◌}
 use mathlib.Core.Path.{◌≡◌, refl, sym, ◌∙◌}
 use native.Mathlib.Omega.{arith}
 use lib.ListN.{drop}
@@ -11,7 +10,7 @@ use Rattle.laws.specs.Tables.{rest_of_drop, Next, held_of_whole, next_of_whole}
 use Rattle.filters.proofs.Laws.Filtering.{filtering_start, filtering_room, filtering_out, filtering_in, filtering_end}
 use Rattle.filters.proofs.Laws.Dropping.{dropping_start, dropping_ready, dropping_end, filtering_left, filtering_counted, filtering_uncounted}
 use Rattle.filters.proofs.filter.Goals as goal
-use Rattle.filters.proofs.filter.Goals.{After-is_passing, After-length_of_held, else-counting, then-counting}
+use Rattle.filters.proofs.filter.Goals.{After-is_passing, After-length, else-counting, then-counting}
 
 pub loop-at-init : goal.loop-at-init
 loop-at-init c =
@@ -23,87 +22,50 @@ loop-at-init c =
       kept = λ off. (refl, refl);
     }
 
-pub length_of_held-requires : goal.length_of_held-requires
-length_of_held-requires c = held_of_whole _ _ c.loop-at.invariant.filtering.rest c.loop-at-test.true
+pub invariant_of-record : goal.invariant_of-record
+invariant_of-record c = record { held = held_of_whole _ _ c.loop-at.invariant.filtering.rest c.loop-at-test.true }
 
 -- the record at the position
-next : (c : After-length_of_held) → Next c.args.table.now c.loop-at.at c.length_of_held.result
-next c = next_of_whole _ _ c.loop-at.invariant.filtering.rest c.loop-at-test.true c.length_of_held.ensures
-
-pub overflow_add-end : goal.overflow_add-end
-overflow_add-end c = omega (arith, (next c).within)
-
-pub is_passing-requires : goal.is_passing-requires
-is_passing-requires c =
-    record { held = held_of_whole _ _ c.loop-at.invariant.filtering.rest c.loop-at-test.true; splits = c.kinds_by_vpid-kinds.ensures }
+next : (c : After-length) → Next c.args.table.now c.loop-at.at c.length.result
+next c = next_of_whole _ _ c.loop-at.invariant.filtering.rest c.loop-at-test.true c.length.ensures
 
 -- whether it passes
 told : (c : After-is_passing)
-    → c.is_passing.result ≡ passed (query_tests c.args.q (mapping (drop c.loop-at.at c.args.table.now)))
+    → c.is_passing.result ≡ passed (query_tests c.args.query (mapping (drop c.loop-at.at c.args.table.now)))
 told c = rw rest_of_drop at c.is_passing.ensures
 
 pub take_off-requires : goal.take_off-requires
 take_off-requires c =
     let loop = c.loop-at.invariant in
     rw rest_of_drop
-    (dropping_ready _ (loop.counts c.if-counting.true) (next (goal.at.take_off-requires c).After-length_of_held)
+    (dropping_ready _ (loop.counts c.if-counting.true) (next (goal.at.take_off-requires c).After-length)
     (rw rest_of_drop at (held_of_whole _ _ loop.filtering.rest c.loop-at-test.true)))
-
-pub slice_bounds-put-count : goal.slice_bounds-put-count
-slice_bounds-put-count c = c.loop-at.invariant.filtering.run
-
-pub slice_bounds-put-start : goal.slice_bounds-put-start
-slice_bounds-put-start c = c.loop-at.invariant.filtering.run
-
-pub slice_bounds-put-end : goal.slice_bounds-put-end
-slice_bounds-put-end c = c.loop-at.invariant.filtering.inside
 
 pub put-to-requires : goal.put-to-requires
 put-to-requires c = filtering_room _ c.loop-at.invariant.filtering
 
-pub overflow_add-dropped : goal.overflow_add-dropped
-overflow_add-dropped c = omega (arith, c.loop-at.invariant.filtering.few)
-
 pub loop-at-smaller-after-counting : goal.loop-at-smaller-after-counting
-loop-at-smaller-after-counting c = omega (arith, next (goal.at.loop-at-smaller-after-counting c).After-length_of_held)
+loop-at-smaller-after-counting c = omega (arith, next (goal.at.loop-at-smaller-after-counting c).After-length)
 
 pub loop-at-preserved-after-counting : goal.loop-at-preserved-after-counting
 loop-at-preserved-after-counting c =
     let inv = c.loop-at.invariant in
-    let here = next (goal.at.loop-at-preserved-after-counting c).After-length_of_held in
+    let here = next (goal.at.loop-at-preserved-after-counting c).After-length in
     let inside = sym (told (goal.at.loop-at-preserved-after-counting c).After-is_passing) ∙ c.if-is_passing.true in
     let on = filtering_in _ inv.filtering here inside c.put-to.ensures.value c.put-to.ensures.out_after in
     elim c.if-counting.branch [ then-counting w ↦ filtering_counted _ inv here inside on w.if-counting.true (w.cells-is ∙ w.take_off.ensures.cells_after) (w.pcids-is ∙ w.take_off.ensures.pcids_after) | else-counting w ↦ filtering_uncounted _ inv here inside on w.if-counting.false w.cells-is w.pcids-is ]
 
 pub loop-at-smaller : goal.loop-at-smaller
-loop-at-smaller c = omega (arith, next (goal.at.loop-at-smaller c).After-length_of_held)
+loop-at-smaller c = omega (arith, next (goal.at.loop-at-smaller c).After-length)
 
 pub loop-at-preserved : goal.loop-at-preserved
 loop-at-preserved c =
     let inv = c.loop-at.invariant in
     let out = sym (told (goal.at.loop-at-preserved c).After-is_passing) ∙ c.if-is_passing.false in
-    filtering_left _ inv (next (goal.at.loop-at-preserved c).After-length_of_held) out (filtering_out _ inv.filtering (next (goal.at.loop-at-preserved c).After-length_of_held) out)
-
-pub slice_bounds-put-count-2 : goal.slice_bounds-put-count-2
-slice_bounds-put-count-2 c = c.loop-at.invariant.filtering.run
-
-pub slice_bounds-put-start-2 : goal.slice_bounds-put-start-2
-slice_bounds-put-start-2 c = c.loop-at.invariant.filtering.run
-
-pub slice_bounds-put-end-2 : goal.slice_bounds-put-end-2
-slice_bounds-put-end-2 c = c.loop-at.invariant.filtering.inside
+    filtering_left _ inv (next (goal.at.loop-at-preserved c).After-length) out (filtering_out _ inv.filtering (next (goal.at.loop-at-preserved c).After-length) out)
 
 pub put-to-requires-2 : goal.put-to-requires-2
 put-to-requires-2 c = filtering_room _ c.loop-at.invariant.filtering
-
-pub shape_of-cells : goal.shape_of-cells
-shape_of-cells c = c.loop-at.invariant.cells_long
-
-pub shape_of-pcids : goal.shape_of-pcids
-shape_of-pcids c = c.loop-at.invariant.pcids_long
-
-pub shape_of-new : goal.shape_of-new
-shape_of-new c = c.put-to-2.auto.out ∙ c.loop-at.invariant.filtering.long
 
 pub returns : goal.returns
 returns c =

@@ -42,7 +42,7 @@ returns-else-counting c =
 
 pub returns-in_default : goal.returns-in_default
 returns-in_default c =
-    let query = c.query-q in
+    let query = c.query-query in
     let some = sym c.has_scope.ensures ∙ not-false _ (ap not c.if-not-has_scope.false) in
     let agree = passed_scope c.args.c c.args.e query.result query.ensures some in
     let filter = c.filter.ensures in

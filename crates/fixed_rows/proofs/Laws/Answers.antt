@@ -1,39 +1,23 @@
 -- What export and import report and leave, by the answer.
-use Rattle.std.specs.Prelude.{ℕ, min, ◌*◌, ◌%◌, ◌≤◌, ◌<◌, Bool, cond, not, ◌&&◌, ◌||◌, List, [], ◌∷◌, ◌++◌, map, ◌≡◌, length}
+use Rattle.std.specs.Prelude.{ℕ, min, ◌*◌, ◌%◌, ◌≤◌, ◌<◌, cond, ◌&&◌, ◌||◌, List, [], ◌∷◌, ◌++◌, map, ◌≡◌, length}
 use Rattle.std.proofs.Math.Bool.{true, false}
 use Rattle.std.proofs.Math.Path.{refl}
-use Rattle.std.proofs.Common.{sym, ◌∙◌, arith, length-append}
+use Rattle.std.proofs.Common.{sym, ap, ◌∙◌, arith, length-append}
 use borrow.Author.Tests.{ne_eqb, eq-eqb, ltb-false, lt-ltb, le-ltb}
 use Rattle.std.proofs.Math.Dec.{eqb, ltb}
 use Rattle.model.specs.Buffers.{put}
 use Rattle.model.specs.Context.{linear_width_in_range}
 use Rattle.model.specs.Mappings.{mapping}
-use Rattle.model.specs.Tables.{limit, joined, records}
+use Rattle.model.specs.Tables.{limit, joined, records, whole}
 use Rattle.model.specs.Answers.{first, stored_grounds}
-use Rattle.laws.specs.Answers.{first_append_some, first_append_none}
+use Rattle.laws.specs.Answers.{first_append_some, first_append_none, stored_valid, valid_table_parts}
+use Rattle.laws.specs.Refusals.{refusal_number_some}
 use Rattle.laws.specs.Tables.{length_valid, records_valid, length_joined_records}
 use Rattle.laws.specs.Steps.{below_either}
 use Rattle.row_fields.specs.Rows.{row_of}
 use Rattle.row_fields.proofs.Laws.Rows.{length_row}
 use Rattle.fixed_rows.specs.declared.Converted.{Converted}
 use Rattle.fixed_rows.specs.FixedRows.{exported, export_grounds, export_answer, exporting, exporting_written, first_bad, imported, import_grounds, import_answer, importing, importing_written}
-
--- a width that is neither 48 nor 57
-pub width_out : (width : ℕ) → (not (eqb width 48) && not (eqb width 57)) ≡ true → linear_width_in_range width ≡ false
-width_out width = go (eqb width 48) (eqb width 57)
-  where
-    go : (a b : Bool) → (not a && not b) ≡ true → (a || b) ≡ false
-    go true b h = sym h
-    go false true h = sym h
-    go false false h = refl
-
-pub width_in : (width : ℕ) → (not (eqb width 48) && not (eqb width 57)) ≡ false → linear_width_in_range width ≡ true
-width_in width = go (eqb width 48) (eqb width 57)
-  where
-    go : (a b : Bool) → (not a && not b) ≡ false → (a || b) ≡ true
-    go true b h = refl
-    go false true h = refl
-    go false false h = sym h
 
 -- "32 bytes a record": the rows of some records
 length_rows : (rs : List (List ℕ)) → length (joined (map row_of rs)) ≡ 32 * length rs
@@ -48,99 +32,124 @@ length_exported t = length_rows (records t)
 pub records_few : (t : List ℕ) → length (records t) ≤ length t
 records_few t = omega (arith, length_valid (records_valid t), length_joined_records t)
 
--- ---- export
-module _ (w : ℕ) (t b : List ℕ) where
-  -- an answer other than 0 leaves the buffer
-  unexported : {n : ℕ} → export_answer w t (length b) ≡ n → (n ≡ 0 → ⊥) → {r : Converted} → r ≡ record { answer = n; row = 0; length = 0 }
-      → (r ≡ exporting w t (length b)) × (b ≡ exporting_written w t b)
-  unfolding exporting exporting_written
-  unexported {n} is some told = (told ∙ rw (is, ne_eqb n 0 some), rw (is, ne_eqb n 0 some))
+-- what is reported of a refusal
+abbrev pub refused : ℕ → ℕ → Converted
+refused answer row = record { answer = answer; row = row; length = 0 }
 
-  pub export_width : linear_width_in_range w ≡ false → {r : Converted} → r ≡ record { answer = 1; row = 0; length = 0 }
-      → (r ≡ exporting w t (length b)) × (b ≡ exporting_written w t b)
+-- ---- export
+module _ (w : ℕ) (t : List ℕ) (room : ℕ) where
+  -- an answer other than 0
+  unexported : (n : ℕ) → export_answer w t room ≡ n → (n ≡ 0 → ⊥) → exporting w t room ≡ refused n 0
+  unfolding exporting
+  unexported n is some = rw (is, ne_eqb n 0 some)
+
+  pub export_width : linear_width_in_range w ≡ false → exporting w t room ≡ refused 1 0
   unfolding export_answer export_grounds first
-  export_width off told = unexported (rw off) (λ z. omega arith) told
+  export_width out = unexported 1 (rw out) (λ z. omega arith)
 
   module _ (on : linear_width_in_range w ≡ true) where
-    table_answer : export_answer w t (length b) ≡ first (stored_grounds w t ++ ((12, ltb (length b) (length (exported t))) ∷ []))
+    table_answer : export_answer w t room ≡ first (stored_grounds w t ++ ((12, ltb room (length (exported t))) ∷ []))
     unfolding export_answer export_grounds first
     table_answer = rw on
 
-    pub export_invalid : {n : ℕ} → n ≡ first (stored_grounds w t) → (n ≡ 0 → ⊥) → {r : Converted} → r ≡ record { answer = n; row = 0; length = 0 }
-        → (r ≡ exporting w t (length b)) × (b ≡ exporting_written w t b)
-    export_invalid is some told =
-        unexported (table_answer ∙ first_append_some (stored_grounds w t) ((12, ltb (length b) (length (exported t))) ∷ []) (λ none. some (is ∙ none)) ∙ sym is) some told
+    pub export_invalid : (n : ℕ) → n ≡ first (stored_grounds w t) → (n ≡ 0 → ⊥) → exporting w t room ≡ refused n 0
+    export_invalid n is some =
+        unexported n (table_answer ∙ first_append_some (stored_grounds w t) ((12, ltb room (length (exported t))) ∷ []) (λ none. some (is ∙ none)) ∙ sym is) some
 
     module _ (valid : first (stored_grounds w t) ≡ 0) where
-      room : export_answer w t (length b) ≡ cond (ltb (length b) (length (exported t))) 12 0
+      by_room : export_answer w t room ≡ cond (ltb room (length (exported t))) 12 0
       unfolding first
-      room = table_answer ∙ first_append_none (stored_grounds w t) ((12, ltb (length b) (length (exported t))) ∷ []) refl valid
+      by_room = table_answer ∙ first_append_none (stored_grounds w t) ((12, ltb room (length (exported t))) ∷ []) refl valid
 
-      pub export_no_room : length b < length (exported t) → {r : Converted} → r ≡ record { answer = 12; row = 0; length = 0 }
-          → (r ≡ exporting w t (length b)) × (b ≡ exporting_written w t b)
-      export_no_room short told = unexported (room ∙ rw (lt-ltb (length b) (length (exported t)) short)) (λ z. omega arith) told
+      pub export_no_room : room < length (exported t) → exporting w t room ≡ refused 12 0
+      export_no_room short = unexported 12 (by_room ∙ rw (lt-ltb room (length (exported t)) short)) (λ z. omega arith)
 
-      pub export_accepted : length (exported t) ≤ length b → {r : Converted} → r ≡ record { answer = 0; row = 0; length = length (exported t) }
-          → {b' : List ℕ} → b' ≡ put 0 (exported t) b
-          → (r ≡ exporting w t (length b)) × (b' ≡ exporting_written w t b)
-      unfolding exporting exporting_written
-      export_accepted enough told made =
-          let none : export_answer w t (length b) ≡ 0 = room ∙ rw (le-ltb (length b) (length (exported t)) enough) in
-          (told ∙ rw none, made ∙ rw none)
+      pub export_accepted : length (exported t) ≤ room → exporting w t room ≡ record { answer = 0; row = 0; length = length (exported t) }
+      unfolding exporting
+      export_accepted enough = let none : export_answer w t room ≡ 0 = by_room ∙ rw (le-ltb room (length (exported t)) enough) in rw none
+
+      pub exported_whole : whole t ≡ true
+      exported_whole = (valid_table_parts _ _ (stored_valid w t valid).1).0
+
+      pub exported_few : length (records t) ≤ limit
+      exported_few = omega (arith, records_few t, (stored_valid w t valid).0)
+
+-- a refusal leaves the buffer; else the rows are put to its front
+module _ (w : ℕ) (t b : List ℕ) (r : Converted) (is : r ≡ exporting w t (length b)) where
+  told : r.answer ≡ export_answer w t (length b)
+  unfolding exporting
+  told = ap (λ r. r.answer) is
+
+  pub exported_none_written : (r.answer ≡ 0 → ⊥) → exporting_written w t b ≡ b
+  unfolding exporting_written
+  exported_none_written some = rw (← told, ne_eqb r.answer 0 some)
+
+  pub exported_written : r.answer ≡ 0 → exporting_written w t b ≡ put 0 (exported t) b
+  unfolding exporting_written
+  exported_written none = rw (← told, none)
 
 -- ---- import
-module _ (w : ℕ) (rows b : List ℕ) where
-  -- an answer other than 0 leaves the buffer
-  unimported : {n row : ℕ} → import_answer w rows (length b) ≡ n → (n ≡ 0 → ⊥) → row ≡ cond (eqb n 4 && eqb (length rows % 32) 0) (first_bad w rows) 0
-      → {r : Converted} → r ≡ record { answer = n; row = row; length = 0 }
-      → (r ≡ importing w rows (length b)) × (b ≡ importing_written w rows b)
-  unfolding importing importing_written
-  unimported {n} is some row told = (told ∙ rw (row, is, ne_eqb n 0 some), rw (is, ne_eqb n 0 some))
+module _ (w : ℕ) (rows : List ℕ) (room : ℕ) where
+  -- an answer other than 0
+  unimported : (n row : ℕ) → import_answer w rows room ≡ n → (n ≡ 0 → ⊥) → row ≡ cond (eqb n 4 && eqb (length rows % 32) 0) (first_bad w rows) 0
+      → importing w rows room ≡ refused n row
+  unfolding importing
+  unimported n row is some at = rw (at, is, ne_eqb n 0 some)
 
-  pub import_width : linear_width_in_range w ≡ false → {r : Converted} → r ≡ record { answer = 1; row = 0; length = 0 }
-      → (r ≡ importing w rows (length b)) × (b ≡ importing_written w rows b)
+  pub import_width : linear_width_in_range w ≡ false → importing w rows room ≡ refused 1 0
   unfolding import_answer import_grounds first
-  import_width off told = unimported (rw off) (λ z. omega arith) refl told
+  import_width out = unimported 1 0 (rw out) (λ z. omega arith) refl
 
   module _ (on : linear_width_in_range w ≡ true) where
-    pub import_cut : (length rows % 32 ≡ 0 → ⊥) → {r : Converted} → r ≡ record { answer = 4; row = 0; length = 0 }
-        → (r ≡ importing w rows (length b)) × (b ≡ importing_written w rows b)
+    pub import_cut : (length rows % 32 ≡ 0 → ⊥) → importing w rows room ≡ refused 4 0
     unfolding import_answer import_grounds first
-    import_cut odd told =
-        let off : eqb (length rows % 32) 0 ≡ false = ne_eqb (length rows % 32) 0 odd in
-        unimported (rw (on, off)) (λ z. omega arith) (rw off) told
+    import_cut odd =
+        let uneven : eqb (length rows % 32) 0 ≡ false = ne_eqb (length rows % 32) 0 odd in
+        unimported 4 0 (rw (on, uneven)) (λ z. omega arith) (rw uneven)
 
     module _ (even : length rows % 32 ≡ 0) where
-      pub import_bad : {n : ℕ} → n ≡ first_bad w rows → (n ≡ 0 → ⊥) → {r : Converted} → r ≡ record { answer = 4; row = n; length = 0 }
-          → (r ≡ importing w rows (length b)) × (b ≡ importing_written w rows b)
+      pub import_bad : (n : ℕ) → n ≡ first_bad w rows → 0 < n → importing w rows room ≡ refused 4 n
       unfolding import_answer import_grounds first
-      import_bad {n} is some told =
-          let off : eqb (first_bad w rows) 0 ≡ false = ne_eqb (first_bad w rows) 0 (λ z. some (is ∙ z)) in
+      import_bad n is some =
+          let bad : eqb (first_bad w rows) 0 ≡ false = ne_eqb (first_bad w rows) 0 (λ z. omega arith) in
           let all : eqb (length rows % 32) 0 ≡ true = eq-eqb (length rows % 32) 0 even in
-          unimported (rw (on, all, off)) (λ z. omega arith) (is ∙ rw all) told
+          unimported 4 n (rw (on, all, bad)) (λ z. omega arith) (is ∙ rw all)
 
       module _ (clean : first_bad w rows ≡ 0) where
-        import_room : import_answer w rows (length b) ≡ cond (ltb (min (length b) limit) (length (imported rows))) 12 0
+        import_room : import_answer w rows room ≡ cond (ltb (min room limit) (length (imported rows))) 12 0
         unfolding import_answer import_grounds first
         import_room = rw (on, eq-eqb (length rows % 32) 0 even, clean)
 
-        pub import_no_room : (ltb (length b) (length (imported rows)) || ltb limit (length (imported rows))) ≡ true
-            → {r : Converted} → r ≡ record { answer = 12; row = 0; length = 0 }
-            → (r ≡ importing w rows (length b)) × (b ≡ importing_written w rows b)
-        import_no_room short told =
-            unimported (import_room ∙ rw (sym (below_either (length b) (length (imported rows))) ∙ short)) (λ z. omega arith) refl told
+        pub import_no_room : (ltb room (length (imported rows)) || ltb limit (length (imported rows))) ≡ true → importing w rows room ≡ refused 12 0
+        import_no_room short =
+            unimported 12 0 (import_room ∙ rw (sym (below_either room (length (imported rows))) ∙ short)) (λ z. omega arith) refl
 
-        module _ (long : (ltb (length b) (length (imported rows)) || ltb limit (length (imported rows))) ≡ false) where
-          enough : ltb (min (length b) limit) (length (imported rows)) ≡ false
-          enough = sym (below_either (length b) (length (imported rows))) ∙ long
+        module _ (long : (ltb room (length (imported rows)) || ltb limit (length (imported rows))) ≡ false) where
+          enough : ltb (min room limit) (length (imported rows)) ≡ false
+          enough = sym (below_either room (length (imported rows))) ∙ long
 
-          pub import_fits : length (imported rows) ≤ length b
-          import_fits = omega (arith, ltb-false (min (length b) limit) (length (imported rows)) enough)
+          pub import_fits : length (imported rows) ≤ room
+          import_fits = omega (arith, ltb-false (min room limit) (length (imported rows)) enough)
 
-          pub import_accepted : {r : Converted} → r ≡ record { answer = 0; row = 0; length = length (imported rows) }
-              → {b' : List ℕ} → b' ≡ put 0 (imported rows) b
-              → (r ≡ importing w rows (length b)) × (b' ≡ importing_written w rows b)
-          unfolding importing importing_written
-          import_accepted told made =
-              let none : import_answer w rows (length b) ≡ 0 = import_room ∙ rw enough in
-              (told ∙ rw none, made ∙ rw none)
+          pub import_accepted : importing w rows room ≡ record { answer = 0; row = 0; length = length (imported rows) }
+          unfolding importing
+          import_accepted = let none : import_answer w rows room ≡ 0 = import_room ∙ rw enough in rw none
+
+-- a refusal leaves the buffer; else the table is put to its front
+module _ (w : ℕ) (rows b : List ℕ) (r : Converted) (is : r ≡ importing w rows (length b)) where
+  import_told : r.answer ≡ import_answer w rows (length b)
+  unfolding importing
+  import_told = ap (λ r. r.answer) is
+
+  pub imported_none_written : (r.answer ≡ 0 → ⊥) → importing_written w rows b ≡ b
+  unfolding importing_written
+  imported_none_written some = rw (← import_told, ne_eqb r.answer 0 some)
+
+  pub imported_written : r.answer ≡ 0 → importing_written w rows b ≡ put 0 (imported rows) b
+  unfolding importing_written
+  imported_written none = rw (← import_told, none)
+
+-- what the answers on a length to be exported or imported rest on
+pub ruleset exports = (export_width, export_invalid, export_no_room, export_accepted, exported_whole, exported_few, length_exported, refusal_number_some)
+
+pub ruleset imports = (import_width, import_cut, import_bad, import_no_room, import_accepted, import_fits)

@@ -1,11 +1,12 @@
 -- Rows cut out of bytes, one after the other.
-use Rattle.std.specs.Prelude.{ℕ, suc, ◌+◌, ◌/◌, ◌≤◌, ◌<◌, Bool, true, false, cond, List, [], ◌∷◌, ◌++◌, map, ◌≡◌, refl, length, take, drop}
-use Rattle.std.proofs.Common.{sym, ◌∙◌, arith, length-drop, drop_of_length-le, drop-drop}
+use Rattle.std.specs.Prelude.{ℕ, suc, ◌+◌, ◌/◌, ◌≤◌, ◌<◌, Bool, true, false, cond, List, [], ◌∷◌, ◌++◌, ◌≡◌, refl, length}
+use Rattle.std.proofs.Common.{sym, ap, ◌∙◌, arith, length-append, take_at}
+use Rattle.std.proofs.lemmas.List.{drop_at}
 use Rattle.model.specs.Layouts.{length_of}
 use Rattle.model.specs.Tables.{joined}
 use Rattle.laws.specs.Lists.{Every, none, more}
 use Rattle.laws.specs.Layouts.{length_of_positive, length_of_mapping_le}
-use Rattle.row_fields.specs.Rows.{Column, column, named, fits, good_row, named_length}
+use Rattle.row_fields.specs.Rows.{Column, column, named, good_row, named_length}
 use Rattle.row_fields.proofs.Laws.Records.{length_record_of}
 use Rattle.row_fields.proofs.Laws.Rows.{good_parts, length_good, length_bad}
 use Rattle.fixed_rows.specs.FixedRows.{rows_within, rows_in, first_bad_from, first_bad, record_named, imported, Fitting, Named}
@@ -15,32 +16,25 @@ pub length_record_named : (r : List ℕ) → length (record_named r) ≡ length_
 unfolding named
 length_record_named r = length_record_of (named r)
 
--- the row at a position, and those behind it
-pub rows_next : (b : List ℕ) (at : ℕ) → at + 32 ≤ length b → rows_in (drop at b) ≡ take 32 (drop at b) ∷ rows_in (drop (at + 32) b)
+-- the first row, and those behind it
+pub rows_first : (b r behind : List ℕ) → b ≡ r ++ behind → length r ≡ 32 → rows_in b ≡ r ∷ rows_in behind
 unfolding rows_in rows_within
-rows_next b at fits =
-    let some : length (drop at b) / 32 ≡ suc (length (drop (at + 32) b) / 32) = omega (arith, length-drop at b, length-drop (at + 32) b) in
-    rw some (rw drop-drop)
+rows_first b r behind cut long =
+    let some : length b / 32 ≡ suc (length behind / 32) = omega (arith, ap length cut, length-append r behind, long) in
+    rw some (rw (cut, take_at r behind 32 long, drop_at r behind 32 long))
 
-pub rows_end : (b : List ℕ) (at : ℕ) → length b ≤ at → rows_in (drop at b) ≡ []
+pub rows_none : (b : List ℕ) → length b < 32 → rows_in b ≡ []
 unfolding rows_in rows_within
-rows_end b at past = rw (drop_of_length-le b past)
+rows_none b short = let zero_rows : length b / 32 ≡ 0 = omega arith in rw zero_rows
 
--- what is still to be written from a position of the rows on
-unfoldable pub imported_from : List ℕ → ℕ → List ℕ
-imported_from b at = joined (map record_named (rows_in (drop at b)))
+-- the table that rows make: the record of the first row, and the rest
+pub imported_first : (b r behind : List ℕ) → b ≡ r ++ behind → length r ≡ 32 → imported b ≡ record_named r ++ imported behind
+unfolding imported joined
+imported_first b r behind cut long = rw (rows_first b r behind cut long)
 
-pub imported_from_start : (b : List ℕ) → imported_from b 0 ≡ imported b
-unfolding imported_from imported
-imported_from_start b = refl
-
-pub imported_from_next : (b : List ℕ) (at : ℕ) → at + 32 ≤ length b → imported_from b at ≡ record_named (take 32 (drop at b)) ++ imported_from b (at + 32)
-unfolding imported_from joined
-imported_from_next b at fits = rw (rows_next b at fits)
-
-pub imported_from_end : (b : List ℕ) (at : ℕ) → length b ≤ at → imported_from b at ≡ []
-unfolding imported_from joined
-imported_from_end b at past = rw (rows_end b at past)
+pub imported_none : (b : List ℕ) → length b < 32 → imported b ≡ []
+unfolding imported joined
+imported_none b short = rw (rows_none b short)
 
 -- the length that a row is said to name is not 0 exactly if the row is good
 module _ (width : ℕ) (r : List ℕ) where

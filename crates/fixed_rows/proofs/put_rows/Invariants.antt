@@ -1,10 +1,6 @@
-use Prim.Native.Nat.{◌-◌}
-use lib.ListN.{length}
-use Rattle.fixed_rows.proofs.Laws.Loops.{Exporting}
+use Rattle.laws.specs.Writing.{Progress}
+use Rattle.fixed_rows.specs.FixedRows.{exported}
 use Rattle.fixed_rows.proofs.put_rows.Given as goal
 
-abbrev pub invariant-loop-at : goal.invariant-loop-at
-invariant-loop-at l = Exporting l.table l.initial.rows l.at l.to l.rows
-
-abbrev pub decreases-loop-at : goal.decreases-loop-at
-decreases-loop-at l = length l.table - l.at
+abbrev pub invariant-loop-record : goal.invariant-loop-record
+invariant-loop-record l = Progress (exported l.table) (exported l.record-iterator.rest.now) l.initial.rows l.to l.rows

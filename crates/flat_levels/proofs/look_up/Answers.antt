@@ -1,27 +1,30 @@
--- Unknown numbers are answered 1; else the lookup's own answer and place are written out.
-use borrow.Author.Tests.{not-true, not-false}
-use mathlib.Core.Path.{◌≡◌, ◌∙◌, sym, ap}
-use native.Mathlib.Omega.{arith}
-use Prim.Native.Nat.{◌-◌}
-use lib.ListN.{length}
-use Rattle.level_lookups.specs.declared.FoundInLevels.{FoundInLevels}
-use Rattle.level_lookups.specs.Levels.{found_in, lookup_levels}
-use Rattle.flat_levels.specs.Flat.{flat_levels_lookup}
-use Rattle.std.proofs.Common.{not}
+-- What the lookup finds is written out.
+use Rattle.std.specs.Prelude.{◌≡◌, true, not}
+use Rattle.std.proofs.Common.{sym, ap, ◌∙◌}
+use Rattle.std.proofs.lemmas.Bool.{not-false}
+use Rattle.flat_contexts.specs.Contexts.{is_known}
+use Rattle.flat_levels.proofs.Laws.{flat_found}
 use Rattle.flat_levels.proofs.look_up.Goals as goal
+use Rattle.flat_levels.proofs.look_up.Goals.{After-find}
 
-pub returns-then-not-is_known : goal.returns-then-not-is_known
-unfolding flat_levels_lookup
-returns-then-not-is_known c = rw (sym c.is_known.ensures ∙ not-true _ (ap not c.if-not-is_known.true))
+known : (c : After-find) → is_known c.args.context ≡ true
+known c = sym c.is_known.ensures ∙ not-false _ (ap not c.if-not-is_known.false)
 
-pub returns : goal.returns
-unfolding flat_levels_lookup found_in
-returns c =
-    let a = c.args in
-    let found = c.find-found.ensures.value in
-    let is = c.context_of.ensures in
-    let known = sym c.is_known.ensures ∙ not-false _ (ap not c.if-not-is_known.false) in
-    let start = ap (λ (r : FoundInLevels). r.start) found in
-    let end = ap (λ (r : FoundInLevels). r.end) found in
-    let size : c.find-found.result.end - c.find-found.result.start ≡ length (lookup_levels c.context_of.result a.address a.first.now a.second.now) = omega (arith, start, end) in
-    rw (known, ← is) (λ i. record { answer = (found i).answer; level = (found i).level; start = (found i).start; length = size i })
+pub returns-in-Ok-Some-First : goal.returns-in-Ok-Some-First
+returns-in-Ok-Some-First c =
+    let told = rw (c.in-Ok-Some-First.field-0-is, c.in-Ok-Some-First.field-0-0-is) at c.in-Ok-Some-First.ensures.value in
+    c.part_of.ensures ∙ flat_found _ _ _ _ (known (goal.at.returns-in-Ok-Some-First c).After-find) c.from.ensures told
+
+pub returns-in-Ok-Some-Second : goal.returns-in-Ok-Some-Second
+returns-in-Ok-Some-Second c =
+    let told = rw (c.in-Ok-Some-Second.field-0-is, c.in-Ok-Some-Second.field-0-0-is) at c.in-Ok-Some-Second.ensures.value in
+    c.part_of-in-Ok-Some-Second.ensures ∙ flat_found _ _ _ _ (known (goal.at.returns-in-Ok-Some-Second c).After-find) c.from.ensures told
+
+pub returns-in-Ok-None : goal.returns-in-Ok-None
+returns-in-Ok-None c =
+    let told = rw c.in-Ok-None.field-0-is at c.in-Ok-None.ensures.value in
+    c.no_part-in-Ok-None.ensures ∙ flat_found _ _ _ _ (known (goal.at.returns-in-Ok-None c).After-find) c.from.ensures told
+
+pub returns-in-Err : goal.returns-in-Err
+returns-in-Err c =
+    rw (c.no_part-in-Err.ensures, c.number.ensures) (flat_found _ _ _ _ (known (goal.at.returns-in-Err c).After-find) c.from.ensures c.in-Err.ensures.value)

@@ -3,6 +3,7 @@ use Rattle.std.specs.Prelude.{ℕ, ◌+◌, Bool, cond, not, ◌≡◌, eqb, get
 use Rattle.std.proofs.Math.Bool.{true, false}
 use Rattle.std.proofs.lemmas.Bool.{false≢true}
 use mathlib.Core.List.{List, [], ◌∷◌}
+use Rattle.std.specs.Prelude.{Option, Some, None, Ok, MatchOption, IsSomeAnd, IfSome, ◌<◌}
 use Rattle.std.proofs.Math.Path.{refl, ap}
 use Rattle.std.proofs.Common.{sym, ◌∙◌, arith}
 use borrow.Author.Tests.{ne_eqb, eq-eqb, eqb-true}
@@ -15,9 +16,11 @@ use Rattle.laws.specs.Lists.{Every, none, more, end_of_part}
 use Rattle.laws.specs.Lookups.{lookup_answer_whole}
 use Rattle.laws.specs.Mappings.{Valid}
 use Rattle.laws.specs.Tables.{records_valid, every_only}
-use Rattle.lookups.specs.Search.{Sets, Searched}
+use Rattle.lookups.specs.declared.Part.{Part}
+use Rattle.lookups.specs.Search.{Sets, start_in, end_in, Searched}
 use Rattle.level_lookups.specs.declared.FoundInLevels.{FoundInLevels}
-use Rattle.level_lookups.specs.Levels.{usable_translation, usable_translations, some_of, lookup_levels_answer, lookup_levels_level, lookup_levels, lookup_levels_start, found_in, Stands}
+use Rattle.level_lookups.specs.declared.FoundInLevels.TheVariants.{Second}
+use Rattle.level_lookups.specs.Levels.{usable_translation, usable_translations, some_of, lookup_levels_answer, lookup_levels_level, lookup_levels, lookup_levels_start, FoundIn, found_in, in_numbers, Stands}
 
 -- the two sets of kinds are those of translations
 pub translations : Sets (λ k. not (structure_cache k)) 0x82 0x108
@@ -64,7 +67,7 @@ module _ (c : Context) (address : ℕ) (t : List ℕ) (start end : ℕ) (found :
 -- the four ends of a lookup
 module _ (c : Context) (address : ℕ) (t u : List ℕ) where
   -- what is told is what was found, and the part stands there
-  abbrev Found : FoundInLevels → Type 0
+  abbrev Found : FoundIn → Type 0
   Found r = (r ≡ found_in c address t u) × Stands c address t u r
 
   nowhere : (n : ℕ) → n ≡ lookup_levels_answer c t u → lookup_levels_level c address t u ≡ 0 → Found (record { answer = n; level = 0; start = 0; end = 0 })
@@ -99,14 +102,22 @@ module _ (c : Context) (address : ℕ) (t u : List ℕ) where
       found_neither {start'} {end'} other nil =
           nowhere 0 (sym passes) (rw (passes, found_none c address t start end found zero, found_none c address u start' end' other nil))
 
-  -- the level and the start that are told
-  pub level_told : {r : FoundInLevels} → r ≡ found_in c address t u → lookup_levels_level c address t u ≡ r.level
-  unfolding found_in
-  level_told told = ap (λ (r : FoundInLevels). r.level) (sym told)
+      -- what the second search finds
+      pub found_last : (r : Option Part) (s : Option FoundInLevels) → MatchOption r (s ≡ None) (λ part. IsSomeAnd s (λ f. f ≡ Second part))
+          → Searched (usable_translation c address) u 0 (start_in r) (end_in r) → IfSome r (λ part. part.start < part.end)
+          → Found (in_numbers (Ok s))
+      found_last None s is other filled = rw is (found_neither other refl)
+      found_last (Some part) None is other filled = absurd is
+      found_last (Some part) (Some f) is other filled = rw is (found_second other (λ nil. absurd (omega (arith, filled, nil))))
 
-  pub start_told : {r : FoundInLevels} → r ≡ found_in c address t u → lookup_levels_start c address t u ≡ r.start
+  -- the level and the start that are told
+  pub level_told : {r : FoundIn} → r ≡ found_in c address t u → lookup_levels_level c address t u ≡ r.level
   unfolding found_in
-  start_told told = ap (λ (r : FoundInLevels). r.start) (sym told)
+  level_told told = ap (λ (r : FoundIn). r.level) (sym told)
+
+  pub start_told : {r : FoundIn} → r ≡ found_in c address t u → lookup_levels_start c address t u ≡ r.start
+  unfolding found_in
+  start_told told = ap (λ (r : FoundIn). r.start) (sym told)
 
 -- an answer of 0 leaves two whole tables
 pub both_whole : (c : Context) (t u : List ℕ) → lookup_levels_answer c t u ≡ 0 → (whole t ≡ true) × (whole u ≡ true)

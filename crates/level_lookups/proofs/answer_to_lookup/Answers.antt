@@ -1,16 +1,18 @@
--- The first table's answer where it is not 0, else the second's.
+-- The first table's refusal, else what the second's judgement gives.
 use mathlib.Core.Path.{sym, ◌∙◌}
 use borrow.Author.Tests.{eq-eqb, ne_eqb}
+use Rattle.std.proofs.lemmas.Result.{err_from_is_err_and}
+use Rattle.laws.specs.Refusals.{refusal_number_some}
 use Rattle.level_lookups.specs.Levels.{lookup_levels_answer}
 use Rattle.level_lookups.proofs.answer_to_lookup.Goals as goal
 
-pub returns-then-answer-ne0 : goal.returns-then-answer-ne0
+pub returns-in_err-answer_to_lookup : goal.returns-in_err-answer_to_lookup
 unfolding lookup_levels_answer
-returns-then-answer-ne0 c =
-    let is = c.answer_to_lookup-answer.ensures in
-    rw (ne_eqb _ 0 (λ z. c.if-answer-ne0.true (is ∙ z))) is
+returns-in_err-answer_to_lookup c =
+    let p = err_from_is_err_and c.from_residual.result c.from_residual.ensures.1 in
+    let is = c.in_err-answer_to_lookup.ensures in
+    rw (p.1, p.2, ne_eqb _ 0 (λ zero. refusal_number_some _ (is ∙ zero))) is
 
 pub returns : goal.returns
 unfolding lookup_levels_answer
-returns c =
-    rw (eq-eqb _ 0 (sym c.answer_to_lookup-answer.ensures ∙ c.if-answer-ne0.false)) c.answer_to_lookup.ensures
+returns c = rw (eq-eqb _ 0 (sym c.in_ok-answer_to_lookup.ensures)) c.answer_to_lookup-2.ensures

@@ -1,6 +1,6 @@
 -- The search of a lookup, record by record: what is left to find behind the position, and what each
 -- turn does.
-use Rattle.std.specs.Prelude.{ℕ, ◌+◌, ◌-◌, ◌≤◌, ◌≡◌, refl, Bool, true, false, List, [], length, get_or, take, drop}
+use Rattle.std.specs.Prelude.{ℕ, ◌+◌, ◌-◌, ◌≤◌, ◌≡◌, refl, Bool, true, false, List, [], Some, length, get_or, take, drop}
 use Rattle.std.proofs.Common.{sym, ◌∙◌, arith}
 use Rattle.model.specs.declared.Mapping.{Mapping}
 use Rattle.model.specs.Mappings.{mapping}
@@ -32,7 +32,7 @@ search_end {t} {at} s e =
     }
 
 -- a turn, at a record of n bytes in a rest that is whole; b is what is read as whether it is sought
-module _ {p : Mapping → Bool} {t : List ℕ} {k at left n : ℕ} {b : Bool} {q : Sought} (rest : whole (drop at t) ≡ true) (s : Searching p t k at left) (asked : AsksFor p q) (next : Next t at n) (says : b ≡ seeks q (take (length t - at) (drop at t))) where
+module _ {p : Mapping → Bool} {t : List ℕ} {k at left n : ℕ} {b : Bool} {q : Sought} (rest : whole (drop at t) ≡ true) (s : Searching p t k at left) (asked : AsksFor p (Some q)) (next : Next t at n) (says : b ≡ seeks q (take (length t - at) (drop at t))) where
   of_front : p (mapping (take n (drop at t))) ≡ b
   of_front =
       let held = held_of_whole t at rest (omega (arith, next.some, next.within)) in

@@ -1,5 +1,5 @@
 -- What a lookup asks, as data, finds exactly the usable records.
-use Rattle.std.specs.Prelude.{ℕ, Bool, not, ◌&&◌, ◌||◌, List, ◌≡◌}
+use Rattle.std.specs.Prelude.{ℕ, Bool, not, ◌&&◌, ◌||◌, List, Option, Some, None, ◌≡◌}
 use Rattle.std.proofs.Math.Bool.{true, false, cond, and-true, and-false, and-eq-true_iff}
 use Rattle.std.proofs.Math.Path.{refl, ap}
 use Rattle.std.proofs.Common.{sym, ◌∙◌}
@@ -18,7 +18,8 @@ use Rattle.model.specs.Lookups.{translates_linear, usable}
 use Rattle.laws.specs.Layouts.{at_rows, of_mapping_kind, agrees, agrees_true, lacks_field, field_lacks}
 use Rattle.laws.specs.Mappings.{vpid_held, pcid_held}
 use Rattle.lookups.specs.declared.Sought.{Sought}
-use Rattle.lookups.specs.Search.{kinds_with, of_kind_and_vpid, of_pcid_and_ep4ta, seeks, AsksFor, usable_of, Sets}
+use Rattle.queries.specs.Queries.{kinds_with, of_kind_and_vpid}
+use Rattle.lookups.specs.Search.{of_pcid_and_ep4ta, seeks, AsksFor, usable_of, Sets}
 
 -- ---- kinds and their fields
 
@@ -70,13 +71,11 @@ cond_same false x = refl
 
 abbrev asking : ℕ → ℕ → ℕ → ℕ → ℕ → ℕ → Sought
 asking vpid kinds others pcid ep4ta page =
-    record { vpid = vpid; kinds = kinds; others = others; pcid = pcid; ep4ta = ep4ta; page = page }
+    record { kinds = record { vpid = vpid; same = kinds; others = others }; pcid = pcid; ep4ta = ep4ta; page = page }
 
--- no kind is asked for, and the test holds of no record
-pub seeks_nothing : (p : Mapping → Bool) (s : Sought) → (s.kinds ≡ 0) × (s.others ≡ 0) → ((m : Mapping) → p m ≡ false) → AsksFor p s
-unfolding seeks of_kind_and_vpid kinds_with
-seeks_nothing p s none never =
-    record { same = λ r held. rw (none.0, none.1, cond_same, set_of r held 0 (λ k. false) refl) (sym (never (mapping r))) }
+-- nothing is asked for where the test holds of no record
+pub seeks_nothing : (p : Mapping → Bool) → ((m : Mapping) → p m ≡ false) → AsksFor p None
+seeks_nothing p never = record { same = λ r held. sym (never (mapping r)) }
 
 -- the tests in the order of the code and in that of the definition; the VPID counts for kinds that have one
 in_order : (kind covers vpid bytes pcid ep4ta : Bool) → (kind ≡ true → bytes ≡ vpid)
@@ -147,7 +146,7 @@ module _ (c : Context) (address : ℕ) where
 
     module _ (linears combineds : ℕ) (sets : Sets wanted linears combineds) (canonically : canonical c.linear_width address ≡ true) where
       pub seeks_linear : current_ept c.place ≡ Off
-          → AsksFor (usable_of wanted c (Linear address)) (asking (current_vpid c.place) linears 0 c.pcid 0 (page_of c.linear_width address))
+          → AsksFor (usable_of wanted c (Linear address)) (Some (asking (current_vpid c.place) linears 0 c.pcid 0 (page_of c.linear_width address)))
       unfolding seeks of_kind_and_vpid kinds_with of_pcid_and_ep4ta usable translates_linear
       seeks_linear off =
           record {
@@ -160,7 +159,7 @@ module _ (c : Context) (address : ℕ) where
           }
 
       pub seeks_combined : (ep4ta : ℕ) → current_ept c.place ≡ On ep4ta
-          → AsksFor (usable_of wanted c (Linear address)) (asking (current_vpid c.place) combineds 0 c.pcid ep4ta (page_of c.linear_width address))
+          → AsksFor (usable_of wanted c (Linear address)) (Some (asking (current_vpid c.place) combineds 0 c.pcid ep4ta (page_of c.linear_width address)))
       unfolding seeks of_kind_and_vpid kinds_with of_pcid_and_ep4ta usable translates_linear
       seeks_combined ep4ta on =
           record {
@@ -172,7 +171,7 @@ module _ (c : Context) (address : ℕ) where
           }
 
   -- every kind is wanted
-  pub every_linear : {s : Sought} → AsksFor (usable_of (λ k. true) c (Linear address)) s → AsksFor (usable c (Linear address)) s
+  pub every_linear : {s : Option Sought} → AsksFor (usable_of (λ k. true) c (Linear address)) s → AsksFor (usable c (Linear address)) s
   every_linear asks = record { same = λ r held. asks.same r held ∙ and-true (usable c (Linear address) (mapping r)) }
 
   pub too_high : guest_physical_in_range address ≡ false → (m : Mapping) → usable c (GuestPhysical address) m ≡ false
@@ -184,7 +183,7 @@ module _ (c : Context) (address : ℕ) where
   ept_off off m = rw (off, and-false)
 
   pub seeks_guest_physical : (ep4ta : ℕ) → guest_physical_in_range address ≡ true → current_ept c.place ≡ On ep4ta
-      → AsksFor (usable c (GuestPhysical address)) (asking 0 0x24 0x24 0 ep4ta (guest_physical_page_of address))
+      → AsksFor (usable c (GuestPhysical address)) (Some (asking 0 0x24 0x24 0 ep4ta (guest_physical_page_of address)))
   unfolding seeks of_kind_and_vpid kinds_with of_pcid_and_ep4ta usable guest_physical
   seeks_guest_physical ep4ta within on =
       record {

@@ -1,25 +1,36 @@
--- Answer 0 leaves a whole table, in which the search finds the part; any other answer gives 0 and 0.
-use mathlib.Core.Path.{refl, sym, ◌∙◌}
-use native.Mathlib.Omega.{arith}
-use borrow.Author.Tests.{eq-eqb, ne_eqb}
-use Rattle.model.specs.Lookups.{usable_records, lookup, lookup_start}
-use Rattle.laws.specs.Lists.{end_of_part}
+-- A table that is accepted is whole, and the search finds the part; without anything to ask for there is none.
+use mathlib.Core.Path.{sym, ◌∙◌}
+use Rattle.std.proofs.lemmas.Result.{err_from_is_err_and}
 use Rattle.laws.specs.Lookups.{lookup_answer_whole}
+use Rattle.laws.specs.Refusals.{refusal_number_some}
+use Rattle.lookups.proofs.Laws.Finding.{finds, finds_refused, searched_nothing}
 use Rattle.lookups.proofs.find.Goals as goal
 
-pub returns-then-answer-ne0 : goal.returns-then-answer-ne0
-unfolding lookup lookup_start
-returns-then-answer-ne0 c =
-    let not_0 = ne_eqb _ _ (λ e. c.if-answer-ne0.true (c.answer_to_lookup-answer.ensures ∙ e)) in
-    record { answer_value = c.answer_to_lookup-answer.ensures; start_value = rw not_0 (omega arith, omega arith) }
+pub returns-in_err-answer_to_lookup-clause-start_value : goal.returns-in_err-answer_to_lookup-clause-start_value
+returns-in_err-answer_to_lookup-clause-start_value c =
+    let p = err_from_is_err_and c.from_residual.result c.from_residual.ensures.1 in
+    rw p.1 (finds_refused _ _ _ _ (λ zero. refusal_number_some _ (c.in_err-answer_to_lookup.ensures ∙ zero))).places
 
-pub search-found-requires : goal.search-found-requires
-search-found-requires c = lookup_answer_whole _ _ (sym c.answer_to_lookup-answer.ensures ∙ c.if-answer-ne0.false)
+pub returns-in_err-answer_to_lookup-clause-part_value : goal.returns-in_err-answer_to_lookup-clause-part_value
+returns-in_err-answer_to_lookup-clause-part_value c =
+    let p = err_from_is_err_and c.from_residual.result c.from_residual.ensures.1 in
+    rw p.1 (finds_refused _ _ _ _ (λ zero. refusal_number_some _ (c.in_err-answer_to_lookup.ensures ∙ zero))).part
 
-pub returns : goal.returns
-unfolding lookup lookup_start usable_records
-returns c =
-    let is-0 = eq-eqb _ _ (sym c.answer_to_lookup-answer.ensures ∙ c.if-answer-ne0.false) in
-    let found = c.search-found.ensures _ c.sought_at.ensures in
-    let end = end_of_part c.args.table.now _ c.search-found.result.start c.search-found.result.end found.ordered found.within found.part in
-    record { answer_value = c.answer_to_lookup-answer.ensures; start_value = rw (is-0, ← found.place) (refl, end) }
+pub returns-in_default-clause-start_value : goal.returns-in_default-clause-start_value
+returns-in_default-clause-start_value c =
+    (finds _ _ _ _ (sym c.in_ok-answer_to_lookup.ensures) (searched_nothing (rw c.in_default.is at c.sought_at.ensures) _ _)).places
+
+pub returns-in_default-clause-part_value : goal.returns-in_default-clause-part_value
+returns-in_default-clause-part_value c =
+    (finds _ _ _ _ (sym c.in_ok-answer_to_lookup.ensures) (searched_nothing (rw c.in_default.is at c.sought_at.ensures) _ _)).part
+
+pub search-requires : goal.search-requires
+search-requires c = lookup_answer_whole _ _ (sym c.in_ok-answer_to_lookup.ensures)
+
+pub returns-clause-start_value : goal.returns-clause-start_value
+returns-clause-start_value c =
+    (finds _ _ _ _ (sym c.in_ok-answer_to_lookup.ensures) (c.search.ensures.searched _ (rw c.in-Some.is at c.sought_at.ensures))).places
+
+pub returns-clause-part_value : goal.returns-clause-part_value
+returns-clause-part_value c =
+    (finds _ _ _ _ (sym c.in_ok-answer_to_lookup.ensures) (c.search.ensures.searched _ (rw c.in-Some.is at c.sought_at.ensures))).part

@@ -9,16 +9,9 @@ use Rattle.model.specs.Bits.{number}
 use Rattle.model.specs.Layouts.{Field, mapping_bodies, kind_of, body_of, length_of}
 use Rattle.model.specs.Mappings.{mapping, wide, Held, global_marked, global_translation}
 use Rattle.laws.specs.Layouts.{at_rows, of_mapping_kind, has_field, lacks_field, field_has, field_lacks}
-use Rattle.laws.specs.Mappings.{global_held}
+use Rattle.laws.specs.Mappings.{held_length, vpid_held, pcid_held, global_held}
 use Rattle.kinds.specs.Places.{place_of}
 use Rattle.mappings.specs.Spans.{page_bytes, SpanAt}
-
--- a field that a test of the kind tells: a number where the test holds, else 0
-pub read_where : {b test : Bool} {f x y : ℕ} → f ≡ cond test y 0 → b ≡ test → b ≡ true → x ≡ y → x ≡ f
-read_where is says holds same = rw (is, ← says, holds) same
-
-pub none_where : {b test : Bool} {f : ℕ} (y : ℕ) → f ≡ cond test y 0 → b ≡ test → b ≡ false → 0 ≡ f
-none_where y is says fails = rw (is, ← says, fails)
 
 -- a page has five bytes or more; six are five and a sixth
 pub page_bytes_some : (kind : ℕ) → 5 ≤ page_bytes kind
@@ -75,3 +68,6 @@ module _ (r : List ℕ) (held : Held r) where
   pub global_tests : (global_marked (mapping r).kind && eqb (number 1 5 r) 1) ≡ global_translation (mapping r)
   unfolding mapping
   global_tests = rw (global_held r held) (eqb_and (global_marked (kind_of r)) (number 1 5 r))
+
+-- what the readers of the fields go by
+pub ruleset fields = (held_length, vpid_held, pcid_held, global_held, page_bytes_some, number_six, ep4ta_fits, ep4ta_none, ep4ta_some, global_tests)

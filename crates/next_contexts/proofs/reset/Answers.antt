@@ -3,4 +3,4 @@ use Rattle.next_contexts.proofs.reset.Goals as goal
 
 pub returns : goal.returns
 unfolding after_reset
-returns c = c.moved_to.ensures
+returns c = cc

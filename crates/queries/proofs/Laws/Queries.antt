@@ -10,6 +10,7 @@ use Rattle.model.specs.declared.Reason.TheVariants.{WrongPcid, WrongEp4ta, NotCo
 use Rattle.model.specs.Reasons.{unless, drops}
 use Rattle.laws.specs.Reasons.{drops_first_failed}
 use Rattle.laws.specs.Scopes.{scope_passed}
+use Rattle.queries.specs.declared.Further.{Further}
 use Rattle.queries.specs.declared.Query.{Query}
 use Rattle.queries.specs.Queries.{of_pcid, of_ep4ta, at_page, not_spared, further_failed, further_passed, query_tests, Meets}
 
@@ -24,9 +25,9 @@ passed_scope c e q meets some m known =
     ∙ sym (scope_passed c e some m)
 
 -- a mapping passes the further tests exactly if none of them is the first that fails
-pub further_passed_failed : (q : Query) (m : Mapping) → drops (further_failed q m) ≡ further_passed q m
+pub further_passed_failed : (f : Further) (m : Mapping) → drops (further_failed f m) ≡ further_passed f m
 unfolding further_failed further_passed
-further_passed_failed q m = go (of_pcid q m) (of_ep4ta q m) (at_page q m) (not_spared q m)
+further_passed_failed f m = go (of_pcid f m) (of_ep4ta f m) (at_page f m) (not_spared f m)
   where
     go : (pcid ep4ta page global : Bool)
         → drops (unless pcid WrongPcid (unless ep4ta WrongEp4ta (unless page NotCovering (unless global SparedAsGlobal InScope))))

@@ -1,13 +1,14 @@
 -- Kinds beside a tag that is touched or not, and the kinds of a query by VPID.
-use Rattle.std.specs.Prelude.{ℕ, ◌+◌, Bool, ◌&&◌, ◌||◌, List, ◌≡◌, eqb}
+use Rattle.std.specs.Prelude.{ℕ, ◌+◌, ◌<◌, Bool, ◌&&◌, ◌||◌, List, ◌≡◌, eqb}
 use Rattle.std.proofs.Math.Bool.{true, false, cond, and-true, and_comm, or-true, or-false}
 use Rattle.std.proofs.Math.Path.{refl}
 use Rattle.std.proofs.Common.{sym, ap, ◌∙◌}
 use Rattle.model.specs.Bits.{bit, number}
 use Rattle.model.specs.Layouts.{mapping_bodies, mapping_kind}
 use Rattle.model.specs.Mappings.{mapping, Held, guest_physical}
-use Rattle.laws.specs.Layouts.{at_rows, of_mapping_kind, agrees, agrees_true}
+use Rattle.laws.specs.Layouts.{at_rows, of_mapping_kind, mapping_kind_below, agrees, agrees_true}
 use Rattle.laws.specs.Mappings.{vpid_held}
+use Rattle.queries.specs.declared.KindsByVpid.{KindsByVpid}
 use Rattle.queries.specs.declared.Query.{Query}
 use Rattle.queries.specs.Queries.{touched, query_tests, guest_physical_of, kinds_where, kinds_with, of_kind_and_vpid, Splits}
 
@@ -52,8 +53,15 @@ module _ (r : List ℕ) (held : Held r) where
   unfolding mapping
   known_kind = held.known
 
+  pub kind_below : (mapping r).kind < 64
+  kind_below = mapping_kind_below _ known_kind
+
   own_vpid : guest_physical (mapping r).kind ≡ false → number 2 1 r ≡ (mapping r).vpid
   own_vpid other = sym (vpid_held r held ∙ rw other)
+
+pub split : (q : Query) (s : KindsByVpid) (r : List ℕ) → Splits q s → Held r
+    → of_kind_and_vpid s r ≡ ((query_tests q (mapping r)).kind && (query_tests q (mapping r)).vpid)
+split q s r all held = all.same r held
 
 pub splits : (q : Query)
     → Splits q (record { vpid = q.vpid.tag; same = kinds_where q.vpid.same q.kinds; others = kinds_where q.vpid.others q.kinds })

@@ -1,5 +1,5 @@
 -- The first event of some bytes: how long it is, and that bytes behind it do not matter; and the bytes that a reader holds.
-use Rattle.std.specs.Prelude.{ℕ, zero, suc, min, ◌+◌, ◌-◌, ◌≤◌, ◌<◌, ◌≡◌, refl, Bool, true, false, cond, not, ◌&&◌, ◌||◌, List, [], ◌∷◌, ◌++◌, leb, ltb, length, take}
+use Rattle.std.specs.Prelude.{ℕ, zero, suc, min, ◌+◌, ◌-◌, ◌≤◌, ◌<◌, ◌≡◌, refl, Bool, true, false, cond, not, ◌&&◌, ◌||◌, List, [], ◌∷◌, ◌++◌, Some, None, leb, ltb, length, take}
 use Rattle.std.proofs.Math.Path.{sym, ap}
 use Rattle.std.proofs.Common.{◌∙◌, arith, length-append, length-take, take_all, take-take, leb-true, leb-false, ltb-false, le-leb, le-ltb}
 use Rattle.std.proofs.lemmas.Bool.{false≢true}
@@ -16,20 +16,20 @@ use Rattle.readers.specs.Readers.{most_held, held_bytes, first_size, complete, c
 -- ---- the first event
 
 -- from the length that its kind tells
-pub first_unknown : (w : ℕ) (bytes : List ℕ) → told_length w bytes ≡ 0 → First w bytes (record { size = 1; known = false })
+pub first_unknown : (w : ℕ) (bytes : List ℕ) → told_length w bytes ≡ 0 → First w bytes None
 unfolding told_length first_size
 first_unknown w bytes none = go (known_at w (kind_of bytes)) refl none
   where
-    go : (known : Bool) → known_at w (kind_of bytes) ≡ known → cond known (length_of (kind_of bytes)) 0 ≡ 0 → First w bytes (record { size = 1; known = false })
+    go : (known : Bool) → known_at w (kind_of bytes) ≡ known → cond known (length_of (kind_of bytes)) 0 ≡ 0 → First w bytes None
     go true is zero_told = absurd (omega (arith, length_of_positive (kind_of bytes)))
     go false is zero_told = record { size = rw is; known = sym is }
 
-pub first_known : (w : ℕ) (bytes : List ℕ) → (told_length w bytes ≡ 0 → ⊥) → First w bytes (record { size = told_length w bytes; known = true })
+pub first_known : (w : ℕ) (bytes : List ℕ) → (told_length w bytes ≡ 0 → ⊥) → First w bytes (Some (told_length w bytes))
 unfolding told_length first_size
 first_known w bytes some = go (known_at w (kind_of bytes)) refl some
   where
     go : (known : Bool) → known_at w (kind_of bytes) ≡ known → (cond known (length_of (kind_of bytes)) 0 ≡ 0 → ⊥)
-        → First w bytes (record { size = cond (known_at w (kind_of bytes)) (length_of (kind_of bytes)) 0; known = true })
+        → First w bytes (Some (cond (known_at w (kind_of bytes)) (length_of (kind_of bytes)) 0))
     go true is told = record { size = rw is; known = sym is }
     go false is told = absurd (told refl)
 

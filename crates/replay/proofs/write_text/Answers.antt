@@ -8,7 +8,7 @@ loop-piece-init g c = (c.start-progress.ensures.ready _ _ _, c.requires)
 pub loop-piece-smaller : goal.loop-piece-smaller
 loop-piece-smaller g c =
     let further : c.loop-piece.progress.at < c.write_next-piece.result.progress.at =
-    c.write_next-piece.ensures.further (omega (arith, c.if-size-eq0.false)) in
+    c.write_next-piece.ensures.further (omega (arith, c.if-piece-eq0.false)) in
     omega (arith, further, c.write_next-piece.ensures.ready.inside)
 
 pub loop-piece-preserved : goal.loop-piece-preserved

@@ -5,9 +5,9 @@ use lib.ListN.{length}
 use Rattle.row_fields.proofs.Laws.Writing.{wrote_number, wrote_two, wrote_behind, row_pieces}
 use Rattle.row_fields.proofs.put_row.Goals as goal
 
-pub returns : goal.returns
-returns c =
-    let fits : c.args.at ≤ length c.args.rows.now = omega (arith, c.requires.at_in_bounds) in
+pub returns-clause-rows_after : goal.returns-clause-rows_after
+returns-clause-rows_after c =
+    let fits : c.args.at ≤ length c.args.rows.now = omega (arith, c.requires) in
     let w =
     wrote_behind fits
     (wrote_behind fits
@@ -16,4 +16,4 @@ returns c =
     (wrote_two _ _ _ _ _ _ (c.put_two-page.ensures.value, c.put_two-page.ensures.out_after)))
     (wrote_two _ _ _ _ _ _ (c.put_two-ep4ta.ensures.value, c.put_two-ep4ta.ensures.out_after)))
     (wrote_number _ _ _ _ (c.put_number.ensures.value, c.put_number.ensures.out_after)) in
-    rw (← c.mapping_of-mapping.ensures, row_pieces) w.made
+    rw (← c.mapping-mapping.ensures, row_pieces) w.made

@@ -1,8 +1,9 @@
 -- Each event's query asks what its definition asks, of every mapping of a known kind.
-use Rattle.std.specs.Prelude.{ℕ, Bool, cond, ◌&&◌, ◌||◌, ◌≡◌, eqb, leb}
+use Rattle.std.specs.Prelude.{ℕ, ◌<◌, ◌≤◌, Bool, List, Option, Some, None, cond, ◌&&◌, ◌||◌, ◌≡◌, eqb, leb}
 use Rattle.std.proofs.Math.Bool.{true, false, not, or-true, or-false}
 use Rattle.std.proofs.Math.Path.{refl, sym}
-use Rattle.std.proofs.Common.{◌∙◌}
+use Rattle.std.proofs.Common.{◌∙◌, arith}
+use borrow.Author.Tests.{ne_eqb, le-leb, lt-leb}
 use Rattle.model.specs.declared.Context.{Context}
 use Rattle.model.specs.declared.Ept.{Ept}
 use Rattle.model.specs.declared.Ept.TheVariants.{Off, On}
@@ -12,12 +13,14 @@ use Rattle.model.specs.declared.Violation.{Violation}
 use Rattle.model.specs.Bits.{bit}
 use Rattle.model.specs.Context.{current_vpid, current_ept}
 use Rattle.model.specs.Layouts.{mapping_bodies, mapping_kind}
-use Rattle.model.specs.Mappings.{linear, guest_physical, combined, global_translation}
+use Rattle.model.specs.Mappings.{mapping, Held, linear, guest_physical, combined, global_translation}
 use Rattle.model.specs.Events.{page_of, guest_physical_page_of}
 use Rattle.model.specs.Scopes.{Tests, vpid_tagged, vpid_named, ep4ta_of, is_current_ep4ta, no_tests, invvpid_tests, invept_tests, invlpg_tests, guest_physical_violation_tests, combined_violation_tests, violation_tests, transition_tests, pcid_named, invpcid_tests, mov_to_cr3_tests}
 use Rattle.model.specs.Reasons.{first_failed}
 use Rattle.laws.specs.Layouts.{at_rows, of_mapping_kind, agrees, agrees_true}
 use Rattle.queries.specs.declared.Tags.{Tags}
+use Rattle.queries.specs.declared.Pages.{Pages}
+use Rattle.queries.specs.declared.Further.{Further}
 use Rattle.queries.specs.declared.Query.{Query}
 use Rattle.queries.specs.Queries.{any, only, all_but, touched, of_pcid, of_ep4ta, covers_asked, at_page, not_spared, query_tests, Meets}
 use Rattle.scopes.specs.Tags.{tags_of_ept}
@@ -114,11 +117,6 @@ by_tests : (t t' : Tests) → Alike t t' → first_failed t ≡ first_failed t'
 unfolding first_failed
 by_tests t t' a = rw (a.kind, a.vpid, a.pcid, a.ep4ta, a.page, a.global)
 
--- a test that every mapping passes, put or not
-unasked : (b : Bool) {x : Bool} → x ≡ true → cond b x true ≡ true
-unasked true is = is
-unasked false is = refl
-
 any_pcid : (guest more : Bool) (pcid : ℕ) → (guest || (touched any pcid || more)) ≡ true
 any_pcid guest more pcid = rw (touched_any, or-true)
 
@@ -130,23 +128,18 @@ by_sort m P one other = go (guest_physical m.kind) refl
     go true is = one is
     go false is = other is
 
-abbrev query : ℕ → Tags → Bool → Tags → Bool → Tags → Bool → Bool → ℕ → ℕ → Bool → Query
-query kinds vpid further pcid global ep4ta covering structures physical linear sparing =
-    record {
-      kinds = kinds;
-      vpid = vpid;
-      further = further;
-      pcid = pcid;
-      global = global;
-      ep4ta = ep4ta;
-      covering = covering;
-      structures = structures;
-      physical = physical;
-      linear = linear;
-      sparing = sparing;
-    }
+-- what is asked of mappings with a VPID, and further
+abbrev query : ℕ → Tags → Option Further → Query
+query kinds vpid further = record { kinds = kinds; vpid = vpid; further = further }
 
-pub meets_nothing : Meets (λ m. no_tests) (query 0x7FE any false any false any false false 0 0 false)
+abbrev further : Tags → Bool → Tags → Option Pages → Bool → Further
+further pcid global ep4ta page sparing =
+    record { pcid = pcid; global = global; ep4ta = ep4ta; page = page; sparing = sparing }
+
+abbrev pages : ℕ → ℕ → Bool → Option Pages
+pages physical linear structures = Some (record { physical = physical; linear = linear; structures = structures })
+
+pub meets_nothing : Meets (λ m. no_tests) (query 0x7FE any None)
 unfolding first_failed query_tests
 meets_nothing =
     record {
@@ -171,56 +164,85 @@ meets_with_vpid tests q kinds tagged rest =
           (λ is. rest m kind (vpid_not_guest_physical m.kind known (sym (tagged m) ∙ is)));
     }
 
--- types 0 and 3 of INVVPID ask further
-further_page : (zero most page : Bool) → cond (zero || not most) (cond zero page true) true ≡ cond zero page true
-further_page true most page = refl
-further_page false true page = refl
-further_page false false page = refl
+-- INVVPID: type 0 asks a page, types 1 and 2 nothing further, and type 3 spares global translations
+module _ (c : Context) (o : Operands) where
+  abbrev meets : Option Further → Type 0
+  meets further = Meets (invvpid_tests c o) (query 0x7DA (cond (eqb o.type_number 2) (all_but 0) (only (vpid_named o))) further)
 
-further_global : (zero most global : Bool) → cond (zero || not most) (not (not most && global)) true ≡ cond most true (not global)
-further_global true true global = refl
-further_global true false global = refl
-further_global false true global = refl
-further_global false false global = refl
+  pub meets_invvpid_page : o.type_number ≡ 0 → meets (Some (further any false any (pages 0 (page_of c.linear_width o.high) true) false))
+  unfolding query_tests of_pcid of_ep4ta covers_asked at_page not_spared invvpid_tests
+  meets_invvpid_page is =
+      meets_with_vpid _ _ refl (λ m. refl)
+      (λ m kind tagged.
+      by_tests _ _
+      (record {
+        kind = kind;
+        vpid = rw (tagged, touched_either);
+        pcid = any_pcid (guest_physical m.kind) false m.pcid;
+        ep4ta = touched_any m.ep4ta;
+        page = rw (tagged, is);
+        global = rw is;
+      }))
 
-pub meets_invvpid : (c : Context) (o : Operands)
-    → Meets (invvpid_tests c o)
-    (query 0x7DA (cond (eqb o.type_number 2) (all_but 0) (only (vpid_named o))) (eqb o.type_number 0 || not (leb o.type_number 2)) any false any (eqb o.type_number 0) true 0 (page_of c.linear_width o.high) (not (leb o.type_number 2)))
-unfolding query_tests of_pcid of_ep4ta covers_asked at_page not_spared invvpid_tests
-meets_invvpid c o =
-    meets_with_vpid _ _ refl (λ m. refl)
-    (λ m kind tagged.
-    let zero = eqb o.type_number 0 in
-    let most = leb o.type_number 2 in
-    by_tests _ _
-    (record {
-      kind = kind;
-      vpid = rw (tagged, touched_either);
-      pcid = unasked (zero || not most) (any_pcid (guest_physical m.kind) false m.pcid);
-      ep4ta = unasked (zero || not most) (touched_any m.ep4ta);
-      page = rw tagged (further_page zero most _);
-      global = further_global zero most (global_translation m);
-    }))
+  pub meets_invvpid : 0 < o.type_number → o.type_number ≤ 2 → meets None
+  unfolding query_tests invvpid_tests
+  meets_invvpid some most =
+      meets_with_vpid _ _ refl (λ m. refl)
+      (λ m kind tagged.
+      by_tests _ _
+      (record { kind = kind; vpid = rw (tagged, touched_either); pcid = refl; ep4ta = refl; page = rw (ne_eqb o.type_number 0 (λ zero. absurd (omega arith))); global = rw (le-leb o.type_number 2 most) }))
 
-pub meets_invept : (o : Operands)
-    → Meets (invept_tests o) (query 0x56C any (eqb o.type_number 1) any false (only (ep4ta_of o.low)) false false 0 0 false)
-unfolding query_tests of_pcid of_ep4ta at_page not_spared invept_tests
-meets_invept o =
-    record {
-      same = λ m known.
-          by_tests _ _
-          (record {
-            kind = kinds_with_ep4ta m.kind known;
-            vpid = rw (touched_any, or-true);
-            pcid = unasked (eqb o.type_number 1) (any_pcid (guest_physical m.kind) false m.pcid);
-            ep4ta = rw touched_only;
-            page = unasked (eqb o.type_number 1) refl;
-            global = unasked (eqb o.type_number 1) refl;
-          });
-    }
+  pub meets_invvpid_sparing : 2 < o.type_number → meets (Some (further any false any None true))
+  unfolding query_tests of_pcid of_ep4ta at_page not_spared invvpid_tests
+  meets_invvpid_sparing high =
+      meets_with_vpid _ _ refl (λ m. refl)
+      (λ m kind tagged.
+      by_tests _ _
+      (record {
+        kind = kind;
+        vpid = rw (tagged, touched_either);
+        pcid = any_pcid (guest_physical m.kind) false m.pcid;
+        ep4ta = touched_any m.ep4ta;
+        page = rw (ne_eqb o.type_number 0 (λ zero. absurd (omega arith)));
+        global = rw (lt-leb o.type_number 2 high);
+      }))
+
+-- INVEPT: type 1 asks an EP4TA
+module _ (o : Operands) where
+  pub meets_invept_one : eqb o.type_number 1 ≡ true → Meets (invept_tests o) (query 0x56C any (Some (further any false (only (ep4ta_of o.low)) None false)))
+  unfolding query_tests of_pcid of_ep4ta at_page not_spared invept_tests
+  meets_invept_one is =
+      record {
+        same = λ m known.
+            by_tests _ _
+            (record {
+              kind = kinds_with_ep4ta m.kind known;
+              vpid = rw (touched_any, or-true);
+              pcid = any_pcid (guest_physical m.kind) false m.pcid;
+              ep4ta = rw (is, touched_only);
+              page = refl;
+              global = refl;
+            });
+      }
+
+  pub meets_invept : eqb o.type_number 1 ≡ false → Meets (invept_tests o) (query 0x56C any None)
+  unfolding query_tests invept_tests
+  meets_invept other =
+      record {
+        same = λ m known.
+            by_tests _ _
+            (record {
+              kind = kinds_with_ep4ta m.kind known;
+              vpid = rw (touched_any, or-true);
+              pcid = refl;
+              ep4ta = rw other;
+              page = refl;
+              global = refl;
+            });
+      }
 
 pub meets_invlpg : (c : Context) (address : ℕ)
-    → Meets (invlpg_tests c address) (query 0x7DA (only (current_vpid c.place)) true (only c.pcid) true any true false 0 (page_of c.linear_width address) false)
+    → Meets (invlpg_tests c address) (query 0x7DA (only (current_vpid c.place)) (Some (further (only c.pcid) true any (pages 0 (page_of c.linear_width address) false) false)))
 unfolding first_failed query_tests of_pcid of_ep4ta covers_asked at_page not_spared invlpg_tests
 meets_invlpg c address = meets_with_vpid _ _ refl (λ m. refl) (λ m kind tagged. rw (kind, tagged, touched_only, touched_only, touched_any))
 
@@ -230,7 +252,7 @@ kinds_of_violation k known false = kinds_guest_physical k known ∙ sym (or-fals
 
 pub meets_violation : (c : Context) (v : Violation)
     → Meets (violation_tests c v)
-    (query (cond (eqb v.flag 1) 0x56C 0x24) (only (current_vpid c.place)) true (only c.pcid) false (tags_of_ept (current_ept c.place)) true true (guest_physical_page_of v.physical) (page_of c.linear_width v.linear) false)
+    (query (cond (eqb v.flag 1) 0x56C 0x24) (only (current_vpid c.place)) (Some (further (only c.pcid) false (tags_of_ept (current_ept c.place)) (pages (guest_physical_page_of v.physical) (page_of c.linear_width v.linear) true) false)))
 unfolding first_failed query_tests of_pcid of_ep4ta covers_asked at_page not_spared violation_tests guest_physical_violation_tests combined_violation_tests
 meets_violation c v =
     record {
@@ -240,7 +262,7 @@ meets_violation c v =
           (λ is. rw (kinds_of_violation m.kind known (eqb v.flag 1), is, touched_only, touched_only, or-false, touched_ept));
     }
 
-pub meets_transition : Meets transition_tests (query 0x7DA (only 0) false any false any false false 0 0 false)
+pub meets_transition : Meets transition_tests (query 0x7DA (only 0) None)
 unfolding first_failed query_tests transition_tests
 meets_transition = meets_with_vpid _ _ refl (λ m. refl) (λ m kind tagged. rw (kind, tagged, touched_only))
 
@@ -252,25 +274,53 @@ not_sparing : (b global : Bool) → not (not b && global) ≡ cond b true (not g
 not_sparing true global = refl
 not_sparing false global = refl
 
-pub meets_invpcid : (c : Context) (o : Operands)
-    → Meets (invpcid_tests c o)
-    (query 0x7DA (only (current_vpid c.place)) true (cond (leb o.type_number 1) (only (pcid_named o)) any) false any (eqb o.type_number 0) true 0 (page_of c.linear_width o.high) (not (eqb o.type_number 2)))
-unfolding query_tests of_pcid of_ep4ta covers_asked at_page not_spared invpcid_tests
-meets_invpcid c o =
-    meets_with_vpid _ _ refl (λ m. refl)
-    (λ m kind tagged.
-    by_tests _ _
-    (record {
-      kind = kind;
-      vpid = rw (tagged, touched_only);
-      pcid = rw (tagged, touched_or_any, or-false);
-      ep4ta = touched_any m.ep4ta;
-      page = rw tagged;
-      global = not_sparing (eqb o.type_number 2) (global_translation m);
-    }))
+-- INVPCID: type 0 asks a page
+module _ (c : Context) (o : Operands) where
+  abbrev meets' : Option Pages → Type 0
+  meets' page =
+      Meets (invpcid_tests c o)
+      (query 0x7DA (only (current_vpid c.place)) (Some (further (cond (leb o.type_number 1) (only (pcid_named o)) any) false any page (not (eqb o.type_number 2)))))
+
+  pub meets_invpcid_page : eqb o.type_number 0 ≡ true → meets' (pages 0 (page_of c.linear_width o.high) true)
+  unfolding query_tests of_pcid of_ep4ta covers_asked at_page not_spared invpcid_tests
+  meets_invpcid_page is =
+      meets_with_vpid _ _ refl (λ m. refl)
+      (λ m kind tagged.
+      by_tests _ _
+      (record {
+        kind = kind;
+        vpid = rw (tagged, touched_only);
+        pcid = rw (tagged, touched_or_any, or-false);
+        ep4ta = touched_any m.ep4ta;
+        page = rw (tagged, is);
+        global = not_sparing (eqb o.type_number 2) (global_translation m);
+      }))
+
+  pub meets_invpcid_no_page : eqb o.type_number 0 ≡ false → meets' None
+  unfolding query_tests of_pcid of_ep4ta at_page not_spared invpcid_tests
+  meets_invpcid_no_page other =
+      meets_with_vpid _ _ refl (λ m. refl)
+      (λ m kind tagged.
+      by_tests _ _
+      (record {
+        kind = kind;
+        vpid = rw (tagged, touched_only);
+        pcid = rw (tagged, touched_or_any, or-false);
+        ep4ta = touched_any m.ep4ta;
+        page = rw other;
+        global = not_sparing (eqb o.type_number 2) (global_translation m);
+      }))
+
+  -- of every type
+  pub meets_invpcid : meets' (cond (eqb o.type_number 0) (pages 0 (page_of c.linear_width o.high) true) None)
+  meets_invpcid = go (eqb o.type_number 0) refl
+    where
+      go : (b : Bool) → eqb o.type_number 0 ≡ b → meets' (cond b (pages 0 (page_of c.linear_width o.high) true) None)
+      go true is = meets_invpcid_page is
+      go false is = meets_invpcid_no_page is
 
 pub meets_mov_to_cr3 : (c : Context) (pcid : ℕ)
-    → Meets (mov_to_cr3_tests c pcid) (query 0x7DA (only (current_vpid c.place)) true (only pcid) false any false false 0 0 true)
+    → Meets (mov_to_cr3_tests c pcid) (query 0x7DA (only (current_vpid c.place)) (Some (further (only pcid) false any None true)))
 unfolding query_tests of_pcid of_ep4ta at_page not_spared mov_to_cr3_tests
 meets_mov_to_cr3 c pcid =
     meets_with_vpid _ _ refl (λ m. refl)
@@ -284,3 +334,9 @@ meets_mov_to_cr3 c pcid =
       page = refl;
       global = refl;
     }))
+
+-- of a record, the query's first failed test is that of the tests it meets
+pub first_failed_asked : (tests : Mapping → Tests) (q : Query) (r : List ℕ) → Meets tests q → Held r
+    → first_failed (query_tests q (mapping r)) ≡ first_failed (tests (mapping r))
+unfolding mapping
+first_failed_asked tests q r meets held = meets.same (mapping r) held.known

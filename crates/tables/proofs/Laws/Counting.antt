@@ -1,7 +1,7 @@
 -- The walk over a table that counts: the records before its position are counted by kind and span, and struck off by PCID.
 use Rattle.std.specs.Prelude.{ℕ, ◌+◌, ◌-◌, ◌≤◌, ◌<◌, Bool, true, false, List, [], ◌∷◌, ◌++◌, ◌≡◌, refl, length, take, drop}
 use Rattle.std.proofs.lemmas.Bool.{false≢true}
-use Rattle.std.proofs.Common.{append_assoc, append-nil, sym, ap, ◌∙◌, arith, length-append, eqb-true}
+use Rattle.std.proofs.Common.{append_assoc, append-nil, sym, ◌∙◌, arith, length-append, eqb-true}
 use Rattle.model.specs.Mappings.{mapping, record_length}
 use Rattle.model.specs.Tables.{records}
 use Rattle.model.specs.Answers.{valid_table}
@@ -9,10 +9,10 @@ use Rattle.laws.specs.Lists.{every_head}
 use Rattle.laws.specs.Mappings.{Valid, starts_record_length, valid_starts}
 use Rattle.laws.specs.Tables.{Next, next_of_length, records_valid, records_drop_end, rest_of_drop}
 use Rattle.tables.specs.Walk.{Tells}
-use Rattle.tables.proofs.Laws.Walk.{Walked}
+use Rattle.valid_records.specs.Lengths.{length_at}
+use Rattle.tables.proofs.Laws.Walk.{Walked, walk_on, walk_read}
 use Rattle.tallies.specs.Tallies.{cells_with, pcids_struck, Struck, Strikable}
-use Rattle.tallies.proofs.Laws.Tallied.{length_cells_with}
-use Rattle.tallies.proofs.Laws.Struck.{length_pcids_struck, struck_with, struck_strikable}
+use Rattle.tallies.proofs.Laws.Struck.{struck_with, struck_strikable}
 
 pub record Counting (t : List ℕ) (at : ℕ) (pcids₀ cells pcids : List ℕ) : Type 0 where
   pub before : List (List ℕ)
@@ -52,41 +52,32 @@ module _ {t : List ℕ} {at : ℕ} {pcids₀ cells pcids : List ℕ} (c : Counti
   pub counting_end : length t ≤ at → Struck pcids₀ (records t) cells pcids
   counting_end end = rw (c.split, records_drop_end t at end, append-nil) c.struck
 
--- a walk that stops before the end has found the table invalid
-pub stopped_invalid : {A : Type 0} {w : ℕ} {t : List ℕ} {at k : ℕ} → Tells w t at k → at < length t → valid_table w t ≡ true → A
-stopped_invalid {A} {w} {t} {at} {k} told before valid = absurd (omega (arith, eqb-true at (length t) (told.valid ∙ valid), before))
-
 -- ---- the loop of the walk, which counts or not
 
-pub record WalkedCounting (w : ℕ) (t : List ℕ) (counting : Bool) (cells₀ pcids₀ cells pcids : List ℕ) (at k : ℕ) : Type 0 where
+pub record WalkedCounting (w : ℕ) (t : List ℕ) (counting : Bool) (pcids₀ cells pcids : List ℕ) (at k : ℕ) : Type 0 where
   pub walked : Walked w t at k
-  pub cells_long : length cells ≡ length cells₀
-  pub pcids_long : length pcids ≡ length pcids₀
   pub counts : counting ≡ true → Counting t at pcids₀ cells pcids
 
-module _ {w : ℕ} {t : List ℕ} {counting : Bool} {cells₀ pcids₀ cells pcids : List ℕ} {at k : ℕ} (c : WalkedCounting w t counting cells₀ pcids₀ cells pcids at k) (n : ℕ) (walked : Walked w t (at + n) (k + 1)) {cells' pcids' : List ℕ} where
-  -- the record at the position was counted
-  pub walked_counted : counting ≡ true → record_length (drop at t) ≡ n → 0 < n
-      → cells' ≡ cells_with (mapping (take (length t - at) (drop at t))) cells
-      → pcids' ≡ pcids_struck (mapping (take (length t - at) (drop at t))) pcids
-      → WalkedCounting w t counting cells₀ pcids₀ cells' pcids' (at + n) (k + 1)
-  walked_counted on read some kinds tags =
-      let m = mapping (drop at t) in
-      let kinds_here : cells' ≡ cells_with m cells = rw rest_of_drop at kinds in
-      let tags_here : pcids' ≡ pcids_struck m pcids = rw rest_of_drop at tags in
-      record {
-        walked = walked;
-        cells_long = ap length kinds_here ∙ length_cells_with m cells ∙ c.cells_long;
-        pcids_long = ap length tags_here ∙ length_pcids_struck m pcids ∙ c.pcids_long;
-        counts = λ counts. rw (kinds_here, tags_here) (counting_next (c.counts on) read some);
-      }
+module _ {w : ℕ} {t : List ℕ} {counting : Bool} {pcids₀ cells pcids : List ℕ} {at k : ℕ} (c : WalkedCounting w t counting pcids₀ cells pcids at k) where
+  -- a walk that stops in a valid table has counted its records
+  pub walked_all : Tells w t at k → counting ≡ true → valid_table w t ≡ true → Struck pcids₀ (records t) cells pcids
+  walked_all told on valid = counting_end (c.counts on) (omega (arith, eqb-true at (length t) (told.valid ∙ valid)))
 
-  -- it was not, as nothing is counted
-  pub walked_uncounted : counting ≡ false → cells' ≡ cells → pcids' ≡ pcids → WalkedCounting w t counting cells₀ pcids₀ cells' pcids' (at + n) (k + 1)
-  walked_uncounted off kinds tags =
-      record {
-        walked = walked;
-        cells_long = ap length kinds ∙ c.cells_long;
-        pcids_long = ap length tags ∙ c.pcids_long;
-        counts = λ on. absurd (false≢true (sym off ∙ on));
-      }
+  module _ {n : ℕ} (read : (0 < n) × (n ≡ length_at w (take (length t - at) (drop at t)))) where
+    -- the record at the position was counted
+    pub walked_counted : {cells' pcids' : List ℕ} → counting ≡ true
+        → cells' ≡ cells_with (mapping (take (length t - at) (drop at t))) cells
+        → pcids' ≡ pcids_struck (mapping (take (length t - at) (drop at t))) pcids
+        → WalkedCounting w t counting pcids₀ cells' pcids' (at + n) (k + 1)
+    walked_counted {cells'} {pcids'} on kinds tags =
+        let m = mapping (drop at t) in
+        let kinds_here : cells' ≡ cells_with m cells = rw rest_of_drop at kinds in
+        let tags_here : pcids' ≡ pcids_struck m pcids = rw rest_of_drop at tags in
+        record {
+          walked = walk_on c.walked read;
+          counts = λ counts. rw (kinds_here, tags_here) (counting_next (c.counts on) (walk_read c.walked read) read.0);
+        }
+
+    -- it was not, as nothing is counted
+    pub walked_uncounted : counting ≡ false → WalkedCounting w t counting pcids₀ cells pcids (at + n) (k + 1)
+    walked_uncounted off = record { walked = walk_on c.walked read; counts = λ on. absurd (false≢true (sym off ∙ on)) }

@@ -1,5 +1,5 @@
 -- The walk over a table, record by record: where it stands, and what each turn does.
-use Prim.Native.Nat.{ℕ, zero, suc, ◌+◌, ◌-◌, ◌≤◌}
+use Prim.Native.Nat.{ℕ, zero, suc, ◌+◌, ◌-◌, ◌≤◌, ◌<◌}
 use Rattle.std.specs.Prelude.{Bool, ◌≡◌, List, take, drop}
 use Rattle.std.proofs.Math.Bool.{true, false, and-true, and-false}
 use Rattle.std.proofs.lemmas.Bool.{false≢true}
@@ -9,11 +9,11 @@ use borrow.Author.Tests.{ne_eqb}
 use Rattle.std.proofs.Math.Dec.{eqb}
 use Rattle.std.proofs.Math.ListN.{length}
 use Rattle.model.specs.Layouts.{kind_of}
-use Rattle.model.specs.Mappings.{other_width, record_length}
+use Rattle.model.specs.Mappings.{Held, other_width, record_length}
 use Rattle.model.specs.Tables.{joined, records, whole, of_width}
 use Rattle.model.specs.Answers.{valid_table}
-use Rattle.laws.specs.Mappings.{kind_of_take}
-use Rattle.laws.specs.Tables.{rest_of_drop, records_none, records_drop_end, length_joined_cons, Next, next_of_length}
+use Rattle.laws.specs.Mappings.{kind_of_take, held_record_length}
+use Rattle.laws.specs.Tables.{rest_of_drop, records_none, length_joined_cons, Next, next_of_length}
 use Rattle.valid_records.specs.Lengths.{length_at}
 use Rattle.valid_records.proofs.Laws.Lengths.{length_at_own, length_at_other}
 use Rattle.tables.specs.Walk.{Tells}
@@ -42,14 +42,10 @@ module _ {w : ℕ} {t : List ℕ} {at k : ℕ} (walked : Walked w t at k) where
         number = λ v. omega (arith, walked.number);
       }
 
-  pub walk_end : length t ≤ at → Tells w t at k
-  unfolding joined of_width
-  walk_end e = let none = records_drop_end t at e in walk_none (rw none) (rw none) (rw none)
-
-  -- n is what is read as the length of the record at the position
-  module _ {n : ℕ} (read : n ≡ length_at w (take (length t - at) (drop at t))) where
-    length_read : length_at w (drop at t) ≡ n
-    length_read = sym (read ∙ ap (length_at w) (rest_of_drop at t))
+  -- nothing is read as the length of a record at the position
+  module _ (read : length_at w (take (length t - at) (drop at t)) ≡ 0) where
+    none_read : length_at w (drop at t) ≡ 0
+    none_read = sym (ap (length_at w) (rest_of_drop at t)) ∙ read
 
     -- a record of the other width stands at the position: the table is not valid
     walk_other : (m : ℕ) → record_length (drop at t) ≡ suc m → other_width w (kind_of (drop at t)) ≡ true → Tells w t at k
@@ -63,39 +59,48 @@ module _ {w : ℕ} {t : List ℕ} {at k : ℕ} (walked : Walked w t at k) where
           number = λ v. absurd (false≢true (rw (off, and-false) at v));
         }
 
-    pub walk_stop : n ≡ 0 → Tells w t at k
+    pub walk_stop : Tells w t at k
     unfolding joined of_width
-    walk_stop stops = go (record_length (drop at t)) refl (other_width w (kind_of (drop at t))) refl
+    walk_stop = go (record_length (drop at t)) refl (other_width w (kind_of (drop at t))) refl
       where
         go : (m : ℕ) → record_length (drop at t) ≡ m → (b : Bool) → other_width w (kind_of (drop at t)) ≡ b → Tells w t at k
         go zero is b other = let none = records_none (drop at t) is in walk_none (rw none) (rw none) (rw none)
         go (suc m) is true other = walk_other m is other
-        go (suc m) is false own = absurd (omega (arith, length_at_own w (drop at t) own, length_read, is, stops))
+        go (suc m) is false own = absurd (omega (arith, length_at_own w (drop at t) own, none_read, is))
 
-    own_width : (n ≡ 0 → ⊥) → other_width w (kind_of (drop at t)) ≡ false
-    own_width some = go (other_width w (kind_of (drop at t))) refl
+  -- n is what is read as the length of the record at the position
+  module _ {n : ℕ} (read : (0 < n) × (n ≡ length_at w (take (length t - at) (drop at t)))) where
+    length_read : length_at w (drop at t) ≡ n
+    length_read = sym (read.1 ∙ ap (length_at w) (rest_of_drop at t))
+
+    own_width : other_width w (kind_of (drop at t)) ≡ false
+    own_width = go (other_width w (kind_of (drop at t))) refl
       where
-        go : (b : Bool) → other_width w (kind_of (drop at t)) ≡ b → other_width w (kind_of (drop at t)) ≡ false
-        go true other = absurd (some (sym length_read ∙ length_at_other w (drop at t) other))
-        go false own = own
+        go : (b : Bool) → other_width w (kind_of (drop at t)) ≡ b → b ≡ false
+        go true other = absurd (omega (arith, read.0, length_read, length_at_other w (drop at t) other))
+        go false own = refl
 
     -- a record of n bytes stands there
-    pub walk_read : (n ≡ 0 → ⊥) → record_length (drop at t) ≡ n
-    walk_read some = sym (length_at_own w (drop at t) (own_width some)) ∙ length_read
+    pub walk_read : record_length (drop at t) ≡ n
+    walk_read = sym (length_at_own w (drop at t) own_width) ∙ length_read
 
-    pub walk_on : (n ≡ 0 → ⊥) → Walked w t (at + n) (k + 1)
+    next : Next t at n
+    next = next_of_length t at n walk_read read.0
+
+    pub walk_held : Held (take (length t - at) (drop at t))
+    walk_held = rw rest_of_drop (held_record_length (drop at t) (omega (arith, walk_read, read.0)))
+
+    pub walk_on : Walked w t (at + n) (k + 1)
     unfolding of_width
-    walk_on some =
-        let own = own_width some in
-        let next : Next t at n = next_of_length t at n (walk_read some) (omega arith) in
-        let same : kind_of (take n (drop at t)) ≡ kind_of (drop at t) = kind_of_take n (drop at t) some in
+    walk_on =
+        let same : kind_of (take n (drop at t)) ≡ kind_of (drop at t) = kind_of_take n (drop at t) (λ none. omega (arith, none, read.0)) in
         let first = length_joined_cons (take n (drop at t)) (records (drop (at + n) t)) in
         let bytes = rw next.split at walked.bytes in
         let number = rw next.split at walked.number in
         record {
           within = next.within;
-          few = omega (arith, walked.few);
+          few = omega (arith, walked.few, read.0);
           bytes = omega (arith, next.size);
           number = omega arith;
-          width = rw (next.split, same, own) at walked.width;
+          width = rw (next.split, same, own_width) at walked.width;
         }

@@ -1,10 +1,9 @@
--- A valid table of one record.
-use mathlib.Core.Path.{sym, ◌∙◌}
-use Rattle.laws.specs.Reasons.{one_record_judged}
-use Rattle.tables.proofs.Laws.Judged.{judged_records_whole}
+-- A refused table is none.
+use Rattle.std.proofs.Common.{sym, ap, ◌∙◌}
+use Rattle.model.specs.Refusals.{answer_of}
+use Rattle.tables.proofs.Laws.Judged.{judged_refused}
 use Rattle.tables.proofs.is_one_record.Goals as goal
 
-pub returns : goal.returns
-returns c =
-    let told = c.judge-judged.ensures in
-    one_record_judged _ _ _ _ told.0 (λ none. told.1 ∙ judged_records_whole _ _ (sym told.0 ∙ none))
+pub returns-in_default-2 : goal.returns-in_default-2
+returns-in_default-2 c =
+    sym (judged_refused _ _ c.in_default.field-0 (sym c.judge.ensures.answer_value ∙ ap answer_of c.in_default.is))

@@ -1,5 +1,5 @@
--- Lists of counts: tabulated, changed at one place, and copied.
-use Rattle.std.specs.Prelude.{◌≡◌, ℕ, zero, suc, ◌+◌, ◌<◌, ◌≤◌, Bool, true, false, List, length, replicate, ◌==◌, slice_index, slice_index_or, slice_set, refl}
+-- Lists of counts: tabulated, and changed at one place.
+use Rattle.std.specs.Prelude.{◌≡◌, ℕ, zero, suc, ◌<◌, Bool, true, false, length, replicate, ◌==◌, slice_index, slice_index_or, slice_set, refl}
 use Rattle.std.proofs.lemmas.Bool.{false≢true}
 use Rattle.std.proofs.Common.{sym, ap, ◌∙◌, arith, eqb-true, eq-eqb, length-set, ext_get_or, get_or-set_same, get_or-set_other}
 use Rattle.tallies.specs.Tallies.{tabulate}
@@ -39,30 +39,3 @@ set_tabulate n f g at v within is others =
     go i false e h =
         get_or-set_other (tabulate n f) at i v 0 (λ is. false≢true (sym e ∙ eq-eqb at i (sym is)))
         ∙ get_d_tabulate n f i 0 h ∙ others i e ∙ sym (get_d_tabulate n g i 0 h)
-
--- the counts up to a position are copied
-pub record Copied (from before to : List ℕ) (at : ℕ) : Type 0 where
-  pub long : length from ≡ length to
-  pub kept : length to ≡ length before
-  pub done : (i : ℕ) → i < at → slice_index to i ≡ slice_index from i
-
-pub copied_start : (from to : List ℕ) → length from ≡ length to → Copied from to to 0
-copied_start from to long = record { long = long; kept = refl; done = λ i h. absurd (omega (arith, h)) }
-
-module _ {from before to : List ℕ} {at : ℕ} (c : Copied from before to at) where
-  pub copied_next : at < length to → Copied from before (slice_set to at (slice_index from at)) (at + 1)
-  copied_next within =
-      record {
-        long = c.long ∙ sym (length-set to at (slice_index from at));
-        kept = length-set to at (slice_index from at) ∙ c.kept;
-        done = λ i h. go i (at == i) refl (omega (arith, h));
-      }
-    where
-      go : (i : ℕ) (b : Bool) → (at == i) ≡ b → i < at + 1 → slice_index (slice_set to at (slice_index from at)) i ≡ slice_index from i
-      go i true e h = rw (← (eqb-true at i e)) (get_or-set_same to at (slice_index from at) 0 within)
-      go i false e h =
-          let other : i ≡ at → ⊥ = λ is. false≢true (sym e ∙ eq-eqb at i (sym is)) in
-          get_or-set_other to at i (slice_index from at) 0 other ∙ c.done i (omega (arith, h, other))
-
-  pub copied_end : length to ≤ at → to ≡ from
-  copied_end end = ext_get_or 0 to from (sym c.long) (λ i h. c.done i (omega (arith, h, end)))

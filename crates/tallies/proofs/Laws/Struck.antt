@@ -1,5 +1,5 @@
 -- Records struck off counts by PCID: what is left, and what that tells.
-use Rattle.std.specs.Prelude.{◌≡◌, ℕ, zero, suc, ◌+◌, ◌%◌, ◌<◌, Bool, true, false, cond, not, ◌&&◌, List, [], ◌∷◌, ◌++◌, length, replicate, ◌==◌, slice_index, slice_set}
+use Rattle.std.specs.Prelude.{◌≡◌, ℕ, zero, suc, ◌+◌, ◌-◌, ◌%◌, ◌<◌, Bool, true, false, cond, not, ◌&&◌, List, [], ◌∷◌, ◌++◌, length, replicate, ◌==◌, slice_index, slice_set}
 use Rattle.std.proofs.Math.Bool.{and-false}
 use Rattle.std.proofs.Math.Path.{refl, sym, ap}
 use Rattle.std.proofs.Common.{◌∙◌, arith, eqb-true, eq-eqb, ne_eqb, length-set, ext_get_or}
@@ -12,13 +12,14 @@ use Rattle.laws.specs.Tables.{count_nil, count_le}
 use Rattle.tallies.specs.Tallies.{of_pcid, pcid_counts, by_pcid, wrapped_less, struck_by, struck_off, cells_with, pcids_struck, pcids_left, Tallied, PcidCounts, Struck, Strikable}
 use Rattle.tallies.proofs.Laws.Lists.{length_tabulate, get_d_tabulate, tabulate_agree, set_tabulate}
 use Rattle.tallies.proofs.Laws.Counts.{count_among}
-use Rattle.tallies.proofs.Laws.Tallied.{strikable, cell_counts_with, pcid_small, tallied_nil}
+use Rattle.tallies.proofs.Laws.Tallied.{held_known, by_pcid_once, cells_with_made, strikable, cell_counts_with, pcid_small, tallied_nil}
 
 -- ---- so many less, wrapping
 
-pub wrapped_less_made : (a n r : ℕ) → r < 65536 → (r + n) % 65536 ≡ a → r ≡ wrapped_less a n
+-- as the program has it
+pub wrapped_less_made : (a n : ℕ) → n < 65536 → (a + (65536 - n)) % 65536 ≡ wrapped_less a n
 unfolding wrapped_less
-wrapped_less_made a n r small is = omega (arith, small, is)
+wrapped_less_made a n few = omega (arith, few)
 
 wrapped_less_none : (a : ℕ) → a < 65536 → a ≡ wrapped_less a 0
 unfolding wrapped_less
@@ -31,7 +32,7 @@ wrapped_less_again a m n = omega arith
 -- what is left of 0 tells how many were struck off
 wrapped_less_back : (n : ℕ) → n < 65536 → wrapped_less 0 (wrapped_less 0 n) ≡ n
 unfolding wrapped_less
-wrapped_less_back n small = sym (wrapped_less_made 0 (wrapped_less 0 n) n small (omega arith))
+wrapped_less_back n small = omega (arith, small)
 
 -- nothing is left exactly where all were struck off
 pub wrapped_less_eqb : (a n : ℕ) → a < 65536 → n < 65536 → (wrapped_less a n == 0) ≡ (a == n)
@@ -56,6 +57,17 @@ struck_by_bytes m {pcids} x counts has small = go (guest_physical m.kind) refl
     go : (b : Bool) → guest_physical m.kind ≡ b → struck_by (x % 4096) (cond b 0 1) pcids ≡ struck_by m.pcid (cond b 0 1) pcids
     go true lacks = struck_by_none counts (x % 4096) ∙ sym (struck_by_none counts m.pcid)
     go false other = ap (λ (at : ℕ). struck_by at 1 pcids) (omega (arith, has other, small))
+
+-- as the program has it
+pub struck_made : (m : Mapping) (pcids : List ℕ) (x : ℕ) → length pcids ≡ 4096 → ((i : ℕ) → slice_index pcids i < 65536) → (guest_physical m.kind ≡ false → x ≡ m.pcid) → m.pcid < length pcids
+    → slice_set pcids (x % 4096) ((slice_index pcids (x % 4096) + (65536 - by_pcid m.kind)) % 65536) ≡ pcids_struck m pcids
+unfolding struck_by
+struck_made m pcids x long small has place =
+    ap (slice_set pcids (x % 4096)) (wrapped_less_made _ _ (omega (arith, by_pcid_once m.kind)))
+    ∙ struck_by_bytes m x (record { long = long; small = small }) has (omega arith)
+
+-- what striking a record off rests on
+pub ruleset struck_places = (held_known, cells_with_made, struck_made)
 
 -- ---- lists keep their lengths
 
@@ -149,11 +161,11 @@ struck_tallied {rs} {cells} {left} few s =
 
 -- ---- how many were struck off, written
 
-pub length_struck_off : (left : List ℕ) → length (struck_off left) ≡ length left
+pub struck_off_written : (left to : List ℕ) → length left ≡ length to → ((i : ℕ) → i < length to → slice_index to i ≡ wrapped_less 0 (slice_index left i)) → to ≡ struck_off left
 unfolding struck_off
-length_struck_off left = length_tabulate (length left) _
+struck_off_written left to long written =
+    ext_get_or 0 to _ (sym long ∙ sym (length_tabulate (length left) _))
+    (λ i h. written i h ∙ sym (get_d_tabulate (length left) (λ i. wrapped_less 0 (slice_index left i)) i 0 (omega (arith, h, long))))
 
-pub struck_off_made : (left : List ℕ) (i r : ℕ) → i < length left → r < 65536 → (r + slice_index left i) % 65536 ≡ 0 → r ≡ slice_index (struck_off left) i
-unfolding struck_off
-struck_off_made left i r h small is =
-    wrapped_less_made 0 (slice_index left i) r small is ∙ sym (get_d_tabulate (length left) (λ i. wrapped_less 0 (slice_index left i)) i 0 h)
+-- what the writing rests on
+pub ruleset written = (wrapped_less_made, struck_off_written)

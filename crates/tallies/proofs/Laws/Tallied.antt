@@ -8,7 +8,7 @@ use Rattle.std.proofs.lemmas.List.{set-get_or}
 use Rattle.model.specs.declared.Mapping.{Mapping}
 use Rattle.model.specs.Context.{pcid_in_range}
 use Rattle.model.specs.Layouts.{mapping_kind}
-use Rattle.model.specs.Mappings.{mapping, linear, guest_physical, structure_cache, span_in_range, page_in_range, fields_in_range, starts_record}
+use Rattle.model.specs.Mappings.{mapping, Held, linear, guest_physical, structure_cache, span_in_range, page_in_range, fields_in_range, starts_record}
 use Rattle.model.specs.Tables.{count}
 use Rattle.laws.specs.Layouts.{of_mapping_kind}
 use Rattle.laws.specs.Tables.{count_nil}
@@ -70,7 +70,7 @@ module _ (part cells pcids : List ℕ) (h : Countable part cells pcids) where
   unfolding raised_by
   pcids_with_fits = rw (get_or-set_same pcids (mapping part).pcid (slice_index pcids (mapping part).pcid + 1) 0 h.strikable.pcid_place) (omega (arith, h.pcid_few))
 
--- ---- a record by its PCID, with no test of its kind
+-- ---- one record more, or one less, as the program has it: by its PCID with no test of its kind
 
 pub by_pcid_once : (kind : ℕ) → by_pcid kind ≤ 1
 unfolding by_pcid
@@ -80,21 +80,37 @@ by_pcid_once kind = go (guest_physical kind)
     go true = omega arith
     go false = omega arith
 
-pub pcids_with_by : (m : Mapping) (pcids : List ℕ) → raised_by m.pcid (by_pcid m.kind) pcids ≡ pcids_with m pcids
+pub cells_with_made : (m : Mapping) (cells : List ℕ) → slice_set cells (cell_of m) (slice_index cells (cell_of m) + 1) ≡ cells_with m cells
+unfolding cells_with raised_by
+cells_with_made m cells = refl
+
+pub cells_without_made : (m : Mapping) (cells : List ℕ) → slice_set cells (cell_of m) (slice_index cells (cell_of m) - 1) ≡ cells_without m cells
+unfolding cells_without lowered_by
+cells_without_made m cells = refl
+
+pub pcids_with_made : (m : Mapping) (pcids : List ℕ) → slice_set pcids m.pcid (slice_index pcids m.pcid + by_pcid m.kind) ≡ pcids_with m pcids
 unfolding pcids_with raised_by by_pcid
-pcids_with_by m pcids = go (guest_physical m.kind)
+pcids_with_made m pcids = go (guest_physical m.kind)
   where
     go : (b : Bool) → slice_set pcids m.pcid (slice_index pcids m.pcid + cond b 0 1) ≡ cond b pcids (slice_set pcids m.pcid (slice_index pcids m.pcid + 1))
     go true = ap (set pcids m.pcid) (omega arith) ∙ set-get_or pcids m.pcid 0
     go false = refl
 
-pub pcids_without_by : (m : Mapping) (pcids : List ℕ) → lowered_by m.pcid (by_pcid m.kind) pcids ≡ pcids_without m pcids
+pub pcids_without_made : (m : Mapping) (pcids : List ℕ) → slice_set pcids m.pcid (slice_index pcids m.pcid - by_pcid m.kind) ≡ pcids_without m pcids
 unfolding pcids_without lowered_by by_pcid
-pcids_without_by m pcids = go (guest_physical m.kind)
+pcids_without_made m pcids = go (guest_physical m.kind)
   where
     go : (b : Bool) → slice_set pcids m.pcid (slice_index pcids m.pcid - cond b 0 1) ≡ cond b pcids (slice_set pcids m.pcid (slice_index pcids m.pcid - 1))
     go true = ap (set pcids m.pcid) (omega arith) ∙ set-get_or pcids m.pcid 0
     go false = refl
+
+-- the kind of a held record is a mapping's
+pub held_known : (r : List ℕ) → Held r → mapping_kind (mapping r).kind ≡ true
+unfolding mapping
+held_known r held = held.known
+
+-- what the counting of a record rests on
+pub ruleset places = (held_known, by_pcid_once, cells_with_made, cells_without_made, pcids_with_made, pcids_without_made)
 
 -- ---- no record
 

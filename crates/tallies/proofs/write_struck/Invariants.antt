@@ -1,10 +1,7 @@
-use Rattle.std.proofs.Common.{◌-◌, length}
-use Rattle.tallies.specs.Tallies.{struck_off}
-use Rattle.tallies.proofs.Laws.Lists.{Copied}
+use Rattle.std.proofs.Common.{◌≡◌, ℕ, ◌<◌, slice_index}
+use Rattle.tallies.specs.Tallies.{wrapped_less}
 use Rattle.tallies.proofs.write_struck.Given as goal
 
+-- the counts up to the position are written
 abbrev pub invariant-loop-at : goal.invariant-loop-at
-invariant-loop-at l = Copied (struck_off l.left) l.initial.to l.to l.at
-
-abbrev pub decreases-loop-at : goal.decreases-loop-at
-decreases-loop-at l = length l.left - l.at
+invariant-loop-at l = (i : ℕ) → i < l.at → slice_index l.to i ≡ wrapped_less 0 (slice_index l.left i)

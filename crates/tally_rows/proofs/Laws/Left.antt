@@ -22,27 +22,20 @@ or_eqb a b = go (eqb a 0) (eqb b 0) refl refl
     go true false e f = ne_eqb (bit_or a b) 0 (λ none. eqb-false b 0 f (omega (arith, none, or_add_and a b, and_le_l a b)))
     go false q e f = ne_eqb (bit_or a b) 0 (λ none. eqb-false a 0 e (omega (arith, none, or_add_and a b, and_le_r a b)))
 
--- the counts up to a position are looked at: the rest decides, where the bits of these together are 0
-pub record Looked (left : List ℕ) (at all : ℕ) : Type 0 where
-  pub within : at ≤ length left
-  pub rest : (eqb all 0 && none_left (drop at left)) ≡ none_left left
+-- counts looked at one after the other: the rest decides, where the bits of those before together are 0
+pub looked_next : (left : List ℕ) (at all : ℕ) → at < length left
+    → (eqb (bit_or all (get_or left at 0)) 0 && none_left (drop (at + 1) left)) ≡ (eqb all 0 && none_left (drop at left))
+unfolding none_left
+looked_next left at all within =
+    let one : at + 1 ≡ suc at = omega arith in
+    rw (one, or_eqb, and_assoc, drop-cons left at 0 within)
 
-pub looked_start : (left : List ℕ) → Looked left 0 0
-looked_start left = record { within = omega arith; rest = refl }
+pub looked_end : (left : List ℕ) (at all : ℕ) → length left ≤ at → (eqb all 0 && none_left (drop at left)) ≡ eqb all 0
+unfolding none_left
+looked_end left at all end = rw (drop_of_length-le left end, and-true)
 
-module _ {left : List ℕ} {at all : ℕ} (l : Looked left at all) where
-  pub looked_next : at < length left → Looked left (at + 1) (bit_or all (get_or left at 0))
-  unfolding none_left
-  looked_next within =
-      let one : at + 1 ≡ suc at = omega arith in
-      record {
-        within = omega (arith, within);
-        rest = rw (one, or_eqb, and_assoc) (rw (drop-cons left at 0 within) at l.rest);
-      }
-
-  pub looked_end : length left ≤ at → eqb all 0 ≡ none_left left
-  unfolding none_left
-  looked_end end = rw (drop_of_length-le left end, and-true) at l.rest
+-- what the test that none is left rests on
+pub ruleset looked = (looked_next, looked_end)
 
 -- ---- counts of 16 bits, and no more records than such a count can have
 

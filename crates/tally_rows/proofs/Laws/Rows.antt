@@ -1,10 +1,14 @@
 -- Rows of counts: of some records, and compared.
 use Rattle.std.specs.Prelude.{ℕ, ◌+◌, ◌*◌, ◌<◌, Bool, true, false, ◌&&◌, ◌≡◌, refl, set}
-use Rattle.std.proofs.Math.Bool.{and-true, and-eq-true_iff}
+use Rattle.std.proofs.Math.Bool.{and-eq-true_iff}
 use Rattle.std.proofs.lemmas.Bool.{false≢true, eqb-false}
 use mathlib.Core.List.{List, [], ◌∷◌}
 use Rattle.std.proofs.Math.Path.{sym, ap}
-use Rattle.std.proofs.Common.{ap₂, ◌∙◌, arith, eqb-true, eq-eqb, ne_eqb}
+use Rattle.std.proofs.lemmas.Grind.{common_steps}
+use Rattle.std.proofs.lemmas.List.{get_or-drop}
+use Rattle.std.proofs.lemmas.List.Edits.{fill_by_more}
+use Rattle.std.specs.Cmp.Lexicographic.{pointwise}
+use Rattle.std.proofs.Common.{ap₂, ◌∙◌, arith, take, drop, get_or-take, ext_get_or, length-set, ◌≤◌, eqb-true, eq-eqb, ne_eqb}
 use Rattle.std.proofs.Math.Dec.{eqb}
 use Rattle.std.proofs.Math.ListN.{length, get_or}
 use Rattle.model.specs.Mappings.{mapping}
@@ -13,7 +17,7 @@ use Rattle.laws.specs.Lists.{Every}
 use Rattle.laws.specs.Mappings.{Valid, valid_starts, starts_parts}
 use Rattle.laws.specs.Tables.{only_agree, count_nil}
 use Rattle.tallies.specs.Tallies.{tabulate, row_of, cell_of, cell_counts}
-use Rattle.tallies.proofs.Laws.Lists.{get_d_tabulate, tabulate_agree}
+use Rattle.tallies.proofs.Laws.Lists.{length_tabulate, get_d_tabulate, tabulate_agree}
 use Rattle.tallies.proofs.Laws.Tallied.{span_below}
 use Rattle.tally_rows.specs.declared.KindCounts.{KindCounts}
 use Rattle.tally_rows.specs.Rows.{of_row, kind_counts, row_from, rows_of, same, same_kinds}
@@ -54,29 +58,20 @@ kind_counts_nil =
 
 -- ---- compared
 
-pub same_five : (xs : List ℕ) (a b c d e : ℕ) → length xs ≡ 5
-    → (eqb (get_or xs 0 0) a && (eqb (get_or xs 1 0) b && (eqb (get_or xs 2 0) c && (eqb (get_or xs 3 0) d && eqb (get_or xs 4 0) e)))) ≡ same xs (a ∷ b ∷ c ∷ d ∷ e ∷ [])
+same_made : (xs ys : List ℕ) → pointwise eqb xs ys ≡ same xs ys
 unfolding same
-same_five (x₀ ∷ x₁ ∷ x₂ ∷ x₃ ∷ x₄ ∷ []) a b c d e long = rw and-true
-same_five [] a b c d e long = absurd (omega (arith, long))
-same_five (x₀ ∷ []) a b c d e long = absurd (omega (arith, long))
-same_five (x₀ ∷ x₁ ∷ []) a b c d e long = absurd (omega (arith, long))
-same_five (x₀ ∷ x₁ ∷ x₂ ∷ []) a b c d e long = absurd (omega (arith, long))
-same_five (x₀ ∷ x₁ ∷ x₂ ∷ x₃ ∷ []) a b c d e long = absurd (omega (arith, long))
-same_five (x₀ ∷ x₁ ∷ x₂ ∷ x₃ ∷ x₄ ∷ x₅ ∷ xs) a b c d e long = absurd (omega (arith, long))
+same_made [] [] = refl
+same_made [] (y ∷ ys) = refl
+same_made (x ∷ xs) [] = refl
+same_made (x ∷ xs) (y ∷ ys) = ap (λ (b : Bool). eqb x y && b) (same_made xs ys)
 
-pub same_six : (d : KindCounts) (xs : List KindCounts) (a b c e f g : KindCounts) → length xs ≡ 6
-    → (same (get_or xs 0 d).spans a.spans && (same (get_or xs 1 d).spans b.spans && (same (get_or xs 2 d).spans c.spans && (same (get_or xs 3 d).spans e.spans && (same (get_or xs 4 d).spans f.spans && same (get_or xs 5 d).spans g.spans)))))
-    ≡ same_kinds xs (a ∷ b ∷ c ∷ e ∷ f ∷ g ∷ [])
+-- as the program has it
+pub same_kinds_made : (xs ys : List KindCounts) → pointwise (λ (x y : KindCounts). pointwise eqb x.spans y.spans) xs ys ≡ same_kinds xs ys
 unfolding same_kinds
-same_six d (x₀ ∷ x₁ ∷ x₂ ∷ x₃ ∷ x₄ ∷ x₅ ∷ []) a b c e f g long = rw and-true
-same_six d [] a b c e f g long = absurd (omega (arith, long))
-same_six d (x₀ ∷ []) a b c e f g long = absurd (omega (arith, long))
-same_six d (x₀ ∷ x₁ ∷ []) a b c e f g long = absurd (omega (arith, long))
-same_six d (x₀ ∷ x₁ ∷ x₂ ∷ []) a b c e f g long = absurd (omega (arith, long))
-same_six d (x₀ ∷ x₁ ∷ x₂ ∷ x₃ ∷ []) a b c e f g long = absurd (omega (arith, long))
-same_six d (x₀ ∷ x₁ ∷ x₂ ∷ x₃ ∷ x₄ ∷ []) a b c e f g long = absurd (omega (arith, long))
-same_six d (x₀ ∷ x₁ ∷ x₂ ∷ x₃ ∷ x₄ ∷ x₅ ∷ x₆ ∷ xs) a b c e f g long = absurd (omega (arith, long))
+same_kinds_made [] [] = refl
+same_kinds_made [] (y ∷ ys) = refl
+same_kinds_made (x ∷ xs) [] = refl
+same_kinds_made (x ∷ xs) (y ∷ ys) = ap₂ ◌&&◌ (same_made x.spans y.spans) (same_kinds_made xs ys)
 
 pub same_kinds_true : (xs ys : List KindCounts) → same_kinds xs ys ≡ true → xs ≡ ys
 unfolding same_kinds
@@ -94,13 +89,36 @@ same_kinds_refl (x ∷ xs) = rw (same_refl x.spans, same_kinds_refl xs)
 
 -- ---- stored
 
-pub set_six : (xs : List KindCounts) (a b c d e f : KindCounts) → length xs ≡ 6
-    → set (set (set (set (set (set xs 0 a) 1 b) 2 c) 3 d) 4 e) 5 f ≡ a ∷ b ∷ c ∷ d ∷ e ∷ f ∷ []
-set_six (x₀ ∷ x₁ ∷ x₂ ∷ x₃ ∷ x₄ ∷ x₅ ∷ []) a b c d e f long = refl
-set_six [] a b c d e f long = absurd (omega (arith, long))
-set_six (x₀ ∷ []) a b c d e f long = absurd (omega (arith, long))
-set_six (x₀ ∷ x₁ ∷ []) a b c d e f long = absurd (omega (arith, long))
-set_six (x₀ ∷ x₁ ∷ x₂ ∷ []) a b c d e f long = absurd (omega (arith, long))
-set_six (x₀ ∷ x₁ ∷ x₂ ∷ x₃ ∷ []) a b c d e f long = absurd (omega (arith, long))
-set_six (x₀ ∷ x₁ ∷ x₂ ∷ x₃ ∷ x₄ ∷ []) a b c d e f long = absurd (omega (arith, long))
-set_six (x₀ ∷ x₁ ∷ x₂ ∷ x₃ ∷ x₄ ∷ x₅ ∷ x₆ ∷ xs) a b c d e f long = absurd (omega (arith, long))
+pub row_made : (cells spans : List ℕ) (at : ℕ) → at + 5 ≤ length cells → spans ≡ take 5 (drop at cells) → ◌≡◌ {A = KindCounts} (record { spans = spans }) (row_from cells at)
+unfolding row_from
+row_made cells spans at within is =
+    ap (λ (counts : List ℕ). record { spans = counts })
+    (is
+    ∙ ext_get_or 0 (take 5 (drop at cells)) (tabulate 5 (λ span. get_or cells (at + span) 0)) (grind (arith, common_steps, length_tabulate))
+    (λ i h.
+    let small : i < 5 = grind (arith, common_steps) in
+    get_or-take 5 (drop at cells) i 0 small ∙ get_or-drop at cells i 0 ∙ sym (get_d_tabulate 5 (λ span. get_or cells (at + span) 0) i 0 small)))
+
+-- so many rows are stored
+pub record Stored (cells : List ℕ) (rows : List KindCounts) (at : ℕ) : Type 0 where
+  pub long : length rows ≡ 6
+  pub done : (i : ℕ) (d : KindCounts) → i < at → get_or rows i d ≡ row_from cells (5 * i)
+
+pub stored_next : (cells : List ℕ) (rows : List KindCounts) (at : ℕ) (row : KindCounts) → Stored cells rows at → at < 6 → row ≡ row_from cells (5 * at)
+    → Stored cells (set rows at row) (at + 1)
+stored_next cells rows at row stored within is =
+    record {
+      long = length-set rows at row ∙ stored.long;
+      done = λ i d h. rw (← is) at (fill_by_more (λ (i : ℕ). row_from cells (5 * i)) rows at d (omega (arith, stored.long, within)) (λ k below. stored.done k d below) i h);
+    }
+
+pub stored_end : (cells : List ℕ) (rows : List KindCounts) → Stored cells rows 6 → rows ≡ rows_of cells
+unfolding rows_of
+stored_end cells rows stored =
+    ext_get_or none rows (tabulate 6 (λ row. row_from cells (5 * row))) (stored.long ∙ sym (length_tabulate 6 _))
+    (λ i h.
+    let small : i < 6 = omega (arith, h, stored.long) in
+    stored.done i none small ∙ sym (get_d_tabulate 6 (λ row. row_from cells (5 * row)) i none small))
+  where
+    none : KindCounts
+    none = record { spans = [] }

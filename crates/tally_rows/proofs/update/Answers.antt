@@ -1,22 +1,7 @@
--- Row by row.
-use mathlib.Core.Path.{◌≡◌}
-use borrow.Author.Rules.{rules}
-use lib.ListN.{length}
-use Rattle.tallies.specs.Tallies.{tabulate}
-use Rattle.tally_rows.specs.Rows.{rows_of}
-use Rattle.tally_rows.proofs.Laws.Rows.{set_six}
+-- One more row is stored.
+use Rattle.std.proofs.Common.{arith}
+use Rattle.tally_rows.proofs.Laws.Rows.{stored_next}
 use Rattle.tally_rows.proofs.update.Goals as goal
 
-pub returns : goal.returns
-unfolding rows_of tabulate
-returns c =
-    let long : length c.args.kinds ≡ 6 = search rules in
-    rw (
-      c.row_at.ensures,
-      c.row_at-2.ensures,
-      c.row_at-3.ensures,
-      c.row_at-4.ensures,
-      c.row_at-5.ensures,
-      c.row_at-6.ensures,
-    )
-    (set_six c.args.kinds _ _ _ _ _ _ long)
+pub loop-at-preserved : goal.loop-at-preserved
+loop-at-preserved c = stored_next _ _ _ _ c.loop-at.invariant (omega (arith, c.loop-at-test.true)) c.row_at.ensures

@@ -3,4 +3,4 @@ use Rattle.texts.proofs.Laws.Texts.{starts}
 use Rattle.texts.proofs.start.Goals as goal
 
 pub returns : goal.returns
-returns c = starts (rw c.context.ensures at c.start.ensures)
+returns c = starts c.start.ensures

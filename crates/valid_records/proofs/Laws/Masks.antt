@@ -13,7 +13,7 @@ use Rattle.model.specs.Bits.{number, page_width}
 use Rattle.model.specs.Layouts.{Field, kind_of, body_of}
 use Rattle.model.specs.Mappings.{mapping, Held, guest_physical, wide, global_marked, span_in_range, page_in_range, pages, fields_in_range}
 use Rattle.laws.specs.Layouts.{of_mapping_kind, mapping_kind_ge, mapping_kind_le}
-use Rattle.laws.specs.Mappings.{span_in_range_le}
+use Rattle.laws.specs.Mappings.{held_length, span_in_range_above, span_in_range_le}
 use Rattle.kinds.specs.Places.{place_of}
 use Rattle.mappings.proofs.Laws.Places.{span_at_held}
 use Rattle.valid_records.specs.Masks.{global_mask, pcid_mask, page_mask, mask, mask_at}
@@ -196,11 +196,5 @@ masks_of_record r bytes held k s is_kind is_span few =
     ∙ ap (λ (m : ℕ). eqb (bit_and (number 16 0 r) m) 0) (mask_at_place k s (omega (arith, is_kind, (kind_of_held r held).0)) few ∙ ap₂ mask is_kind is_span)
     ∙ mask_of_record r bytes held
 
--- a number that is none of the first n is n or more
-abbrev pub NoneOf : ℕ → ℕ → Type 0
-NoneOf i zero = Unit {0}
-NoneOf i (suc n) = NoneOf i n × (i ≡ n → ⊥)
-
-pub none_of_first : (i n : ℕ) → NoneOf i n → n ≤ i
-none_of_first i zero none = omega arith
-none_of_first i (suc n) none = omega (arith, none_of_first i n none.0, none.1)
+-- what the answers of the test of the ranges rest on
+pub ruleset in_ranges = (kind_of_held, held_length, ranges_off, span_in_range_above)

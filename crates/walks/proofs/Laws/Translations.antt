@@ -1,5 +1,5 @@
 -- What the record of a sound translation is worth.
-use Rattle.std.specs.Prelude.{ℕ, ◌*◌, ◌/◌, ◌%◌, ◌^◌, ◌≤◌, ◌<◌, Bool, false, ◌&&◌, ◌||◌, ◌≡◌, length}
+use Rattle.std.specs.Prelude.{ℕ, ◌*◌, ◌/◌, ◌%◌, ◌^◌, ◌≤◌, ◌<◌, Bool, false, Result, Ok, ◌&&◌, ◌||◌, ◌≡◌, length}
 use Rattle.std.proofs.Math.Bool.{true, cond, not, and-eq-true_iff}
 use mathlib.Core.List.{List, [], ◌∷◌, ◌++◌}
 use Rattle.std.proofs.Math.Path.{refl, sym, ap, subst}
@@ -28,9 +28,10 @@ use Rattle.laws.specs.Tables.{only_true, records_one, whole_one}
 use Rattle.laws.specs.Events.{event_creation}
 use Rattle.laws.specs.Answers.{answer_of_room, event_answer_own, table_grounds_in_range, stored_passes, valid_table_made}
 use Rattle.walks.specs.declared.Translation.{Translation}
-use Rattle.walks.specs.declared.Ending.TheVariants.{Translated, ContextOutOfRange, BadEptp, NotCanonical}
-use Rattle.walks.specs.declared.Walked.{Walked}
-use Rattle.walks.specs.Walks.{Memory, ended, combined_record, record_of, walk_in, walk_of}
+use Rattle.walks.specs.declared.Ground.TheVariants.{ContextOutOfRange, BadEptp, NotCanonical}
+use Rattle.walks.specs.declared.Stopped.{Stopped}
+use Rattle.walks.specs.declared.Found.{Found}
+use Rattle.walks.specs.Walks.{Memory, stopped, ending_of, combined_record, record_of, walk_in, walk_of}
 use Rattle.walks.specs.Theorem.{combined_mapping, Entered, Cacheable, WalkCacheable}
 use Rattle.walks.proofs.Laws.Bounds.{Sound, SoundEnding, walk_in_ends}
 
@@ -206,20 +207,17 @@ module _ (c : Context) (vpid ep4ta address : ℕ) (t : Translation) (sound : Sou
 -- ---- the theorem
 
 -- a walk that translates was of a context in its ranges, and of a canonical address
-translated_asks : (mem : Memory) (c : Context) (root eptp address : ℕ) (t : Translation) → (walk_in mem c root eptp address).ending ≡ Translated t
+translated_asks : (mem : Memory) (c : Context) (root eptp address : ℕ) (t : Translation) → ending_of (walk_in mem c root eptp address) ≡ Ok t
     → (in_range c ≡ true) × (canonical 48 address ≡ true)
 unfolding walk_in
 translated_asks mem c root eptp address t is = go (in_range c) (eqb (eptp_rule c eptp) 0) (canonical 48 address) _ is
   where
-    never : ◌≡◌ {A = ℕ} 0 1 → ⊥
-    never z = omega arith
-
-    go : (fits good low : Bool) (w : Walked)
-        → (cond (not fits) (ended ContextOutOfRange 0) (cond (not good) (ended (BadEptp (eptp_rule c eptp)) 0) (cond (not low) (ended NotCanonical 0) w))).ending ≡ Translated t
+    go : (fits good low : Bool) (w : Result Found Stopped)
+        → ending_of (cond (not fits) (stopped ContextOutOfRange 0) (cond (not good) (stopped (BadEptp (eptp_rule c eptp)) 0) (cond (not low) (stopped NotCanonical 0) w))) ≡ Ok t
         → (fits ≡ true) × (low ≡ true)
-    go false good low w h = absurd (never (cc))
-    go true false low w h = absurd (never (cc))
-    go true true false w h = absurd (never (cc))
+    go false good low w h = cc
+    go true false low w h = cc
+    go true true false w h = cc
     go true true true w h = (refl, refl)
 
 pub walk_cacheable_holds : WalkCacheable

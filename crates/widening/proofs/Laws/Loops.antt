@@ -1,15 +1,14 @@
--- The lengths of rewritten records, and the two loops over a table: the one that adds up lengths, and the one that
--- writes.
-use Rattle.std.specs.Prelude.{ℕ, ◌+◌, ◌-◌, ◌*◌, ◌≤◌, Bool, true, false, cond, List, [], ◌++◌, map, ◌≡◌, refl, eqb, leb, length, take, drop}
-use Rattle.std.proofs.Common.{sym, ap, ◌∙◌, arith, le_trans, leb-true, eqb-true, length-append, length-drop, length-take-le}
+-- The lengths of rewritten records, the table that is left in the two loops over one, and the loop that adds up lengths.
+use Rattle.std.specs.Prelude.{ℕ, ◌+◌, ◌-◌, ◌*◌, ◌≤◌, Bool, true, false, cond, List, [], ◌∷◌, ◌++◌, ◌≡◌, refl, eqb, leb, length, take, drop}
+use Rattle.std.proofs.Common.{ap, ◌∙◌, arith, le_trans, leb-true, eqb-true, length-append, length-drop, length-take-le}
 use Rattle.model.specs.Bits.{number, bytes}
 use Rattle.model.specs.Buffers.{put}
 use Rattle.model.specs.Layouts.{Field, kind_of, mapping_kind, body_of, length_of, field}
 use Rattle.model.specs.Mappings.{Held, linear, combined, wide, other_width}
 use Rattle.model.specs.Tables.{joined, records, whole}
-use Rattle.laws.specs.Buffers.{length_bytes, put_put, length_put, length_put_least, put_nil}
+use Rattle.laws.specs.Buffers.{length_bytes, put_put, length_put_least}
 use Rattle.laws.specs.Layouts.{of_mapping_kind, has_field, field_has}
-use Rattle.laws.specs.Tables.{Next, whole_rest, records_drop_end}
+use Rattle.laws.specs.Mappings.{held_length}
 use Rattle.kinds.specs.Places.{place_of}
 use Rattle.widening.specs.Widening.{widened_kind, widened_page, page_place, rewritten, widened, widened_table}
 
@@ -46,90 +45,41 @@ length_widened_le r held = go (other_width 57 (kind_of r)) refl
     go true is = omega (arith, ap length (widened_other r is), length_rewritten r held)
     go false is = omega (arith, ap length (widened_own r is))
 
--- what is still to be written from a position of the table on
-unfoldable pub widened_from : List ℕ → ℕ → List ℕ
-widened_from t at = joined (map widened (records (drop at t)))
+-- a whole table is its first record and the rest
+module _ (rest r behind : List ℕ) (first : records rest ≡ r ∷ records behind) (w : whole rest ≡ true) (w' : whole behind ≡ true) where
+  length_first : length rest ≡ length r + length behind
+  unfolding whole joined
+  length_first =
+      omega (arith, eqb-true (length (joined (records rest))) (length rest) w, eqb-true (length (joined (records behind))) (length behind) w', ap length (ap joined first), length-append r (joined (records behind)))
 
-pub widened_from_start : (t : List ℕ) → widened_from t 0 ≡ widened_table t
-unfolding widened_from widened_table
-widened_from_start t = refl
+pub widened_first : (rest r behind : List ℕ) → records rest ≡ r ∷ records behind → widened_table rest ≡ widened r ++ widened_table behind
+unfolding widened_table joined
+widened_first rest r behind first = rw first
 
-pub widened_from_next : {t : List ℕ} {at n : ℕ} → Next t at n → widened_from t at ≡ widened (take n (drop at t)) ++ widened_from t (at + n)
-unfolding widened_from joined
-widened_from_next next = rw next.split
+pub widened_none : (rest : List ℕ) → records rest ≡ [] → widened_table rest ≡ []
+unfolding widened_table joined
+widened_none rest none = rw none
 
-pub widened_from_end : (t : List ℕ) (at : ℕ) → length t ≤ at → widened_from t at ≡ []
-unfolding widened_from joined
-widened_from_end t at done = rw (records_drop_end t at done)
+-- the loop that adds up the lengths, with a rest of the table left
+pub record Adding (t rest : List ℕ) (size : ℕ) : Type 0 where
+  pub few : size + 2 * length rest ≤ 2 * length t
+  pub all : size + length (widened_table rest) ≡ length (widened_table t)
 
--- the loop that adds up the lengths
-pub record Adding (t : List ℕ) (at size : ℕ) : Type 0 where
-  pub inside : at ≤ length t
-  pub rest : whole (drop at t) ≡ true
-  pub few : size ≤ 2 * at
-  pub all : size + length (widened_from t at) ≡ length (widened_table t)
+pub adding_start : (t : List ℕ) → Adding t t 0
+adding_start t = record { few = omega arith; all = omega arith }
 
-pub adding_start : (t : List ℕ) → whole t ≡ true → Adding t 0 0
-adding_start t w = record { inside = omega arith; rest = w; few = omega arith; all = omega (arith, ap length (widened_from_start t)) }
-
-pub adding_turn : {t : List ℕ} {at size : ℕ} → Adding t at size → {n more : ℕ} → Next t at n → Held (take n (drop at t)) → more ≡ length (widened (take n (drop at t)))
-    → Adding t (at + n) (size + more)
-adding_turn {t} {at} s {n} next held is =
+pub adding_turn : (t rest r behind : List ℕ) {size more : ℕ} → Adding t rest size → records rest ≡ r ∷ records behind → whole rest ≡ true → whole behind ≡ true → Held r
+    → more ≡ length (widened r)
+    → Adding t behind (size + more)
+adding_turn t rest r behind s first w w' held is =
+    let long = length_first rest r behind first w w' in
     record {
-      inside = next.within;
-      rest = whole_rest s.rest next;
-      few = omega (arith, s.few, is, length_widened_le (take n (drop at t)) held, next.size, next.some);
-      all =
-          omega (arith, s.all, is, ap length (widened_from_next next), length-append (widened (take n (drop at t))) (widened_from t (at + n)));
+      few = omega (arith, s.few, is, long, length_widened_le r held, held_length r held);
+      all = omega (arith, s.all, is, ap length (widened_first rest r behind first), length-append (widened r) (widened_table behind));
     }
 
-pub adding_end : {t : List ℕ} {at size : ℕ} → Adding t at size → length t ≤ at → size ≡ length (widened_table t)
-adding_end {t} {at} s done = omega (arith, s.all, ap length (widened_from_end t at done))
-
--- the loop that writes
-pub record Writing (t buffer : List ℕ) (at to : ℕ) (new : List ℕ) : Type 0 where
-  pub inside : at ≤ length t
-  pub rest : whole (drop at t) ≡ true
-  pub long : length new ≡ length buffer
-  pub size : to + length (widened_from t at) ≡ length (widened_table t)
-  pub room : length (widened_table t) ≤ length new
-  pub bytes : put to (widened_from t at) new ≡ put 0 (widened_table t) buffer
-
-pub writing_start : (t buffer : List ℕ) → whole t ≡ true → length (widened_table t) ≤ length buffer → Writing t buffer 0 0 buffer
-writing_start t buffer w room =
-    record {
-      inside = omega arith;
-      rest = w;
-      long = refl;
-      size = omega (arith, ap length (widened_from_start t));
-      room = room;
-      bytes = ap (λ (xs : List ℕ). put 0 xs buffer) (widened_from_start t);
-    }
-
-module _ {t buffer : List ℕ} {at to : ℕ} {new : List ℕ} (s : Writing t buffer at to new) {n : ℕ} (next : Next t at n) where
-  -- there is room for the next record
-  pub writing_room : to + length (widened (take n (drop at t))) ≤ length new
-  writing_room =
-      omega (arith, s.size, s.room, ap length (widened_from_next next), length-append (widened (take n (drop at t))) (widened_from t (at + n)))
-
-  pub writing_turn : {to' : ℕ} {new' : List ℕ} → to' ≡ to + length (widened (take n (drop at t))) → new' ≡ put to (widened (take n (drop at t))) new
-      → Writing t buffer (at + n) to' new'
-  writing_turn {to'} {new'} is made =
-      let r = widened (take n (drop at t)) in
-      let others = widened_from t (at + n) in
-      let long : length new' ≡ length new = ap length made ∙ length_put to r new writing_room in
-      let behind : put to' others new' ≡ put to (r ++ others) new = rw (is, made) (put_put to r others new (omega (arith, writing_room))) in
-      record {
-        inside = next.within;
-        rest = whole_rest s.rest next;
-        long = long ∙ s.long;
-        size = omega (arith, s.size, is, ap length (widened_from_next next), length-append r others);
-        room = omega (arith, s.room, long);
-        bytes = behind ∙ rw (← (widened_from_next next)) s.bytes;
-      }
-
-pub writing_end : {t buffer : List ℕ} {at to : ℕ} {new : List ℕ} → Writing t buffer at to new → length t ≤ at → new ≡ put 0 (widened_table t) buffer
-writing_end {t} {buffer} {at} {to} {new} s done = sym (put_nil to new) ∙ rw (widened_from_end t at done) at s.bytes
+pub adding_end : {t rest : List ℕ} {size : ℕ} → Adding t rest size → records rest ≡ [] → size ≡ length (widened_table t)
+adding_end {rest = rest} s none = omega (arith, s.all, ap length (widened_none rest none))
 
 -- the page stands behind the span, in five bytes where the kind is of 48 bits
 pub page_behind_span : (k : ℕ) → mapping_kind k ≡ true → place_of Field.span k + 1 ≡ page_place k
@@ -145,6 +95,9 @@ page_of_five r held other =
   where
     where_other : {b : Bool} → cond (other_width 57 (kind_of r)) b true ≡ true → b ≡ true
     where_other h = rw other at h
+
+-- what the answers on one record rest on
+pub ruleset rewriting = (length_rewritten, widened_other, widened_own, page_within, page_behind_span)
 
 -- the four pieces of a rewritten record, put one behind the other
 pub put_pieces : (r b : List ℕ) (at : ℕ) → Held r → at + (length r + 1) ≤ length b

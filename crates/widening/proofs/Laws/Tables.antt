@@ -17,7 +17,7 @@ use Rattle.model.specs.declared.Address.TheVariants.{Linear, GuestPhysical}
 use Rattle.model.specs.Context.{in_range, pcid_in_range, current_ept}
 use Rattle.model.specs.Layouts.{kind_of, mapping_kind, body_of, length_of}
 use Rattle.model.specs.Mappings.{mapping, linear, guest_physical, combined, structure_cache, wide, other_width, global_marked, span_in_range, page_in_range, fields_in_range}
-use Rattle.model.specs.Tables.{limit, joined, records, only}
+use Rattle.model.specs.Tables.{limit, records, only}
 use Rattle.model.specs.Events.{canonical, page_of, covers_linear, covers_guest_physical}
 use Rattle.model.specs.Answers.{first, valid_table, stored_grounds}
 use Rattle.model.specs.Lookups.{translates_linear, usable, usable_records, lookup_answer, lookup}

@@ -1,53 +1,15 @@
--- The loop adds up the lengths of the records as they will stand.
-use Prim.Native.Nat.{◌+◌, ◌-◌}
-use mathlib.Core.Path.{◌≡◌}
-use native.Mathlib.Omega.{arith}
-use lib.ListN.{take, drop}
-use Rattle.model.specs.Mappings.{Held}
-use Rattle.laws.specs.Tables.{rest_of_drop, Next, held_of_whole, next_of_whole, held_of_next}
-use Rattle.widening.proofs.Laws.Loops.{adding_start, adding_turn, adding_end}
+-- A turn adds the length of the next record.
+use Rattle.std.proofs.Common.{arith}
+use Rattle.widening.proofs.Laws.Loops.{adding_turn, adding_end}
 use Rattle.widening.proofs.length_widened.Goals as goal
-use Rattle.widening.proofs.length_widened.Goals.{After-length_of_held}
 
-pub loop-at-init : goal.loop-at-init
-loop-at-init c = adding_start _ c.requires.table_value
-
-pub length_of_held-requires : goal.length_of_held-requires
-length_of_held-requires c = held_of_whole _ _ c.loop-at.invariant.rest c.loop-at-test.true
-
--- the record at the position, and that it is held where it is cut out
-next : (c : After-length_of_held) → Next c.args.table.now c.loop-at.at c.length_of_held.result
-next c = next_of_whole _ _ c.loop-at.invariant.rest c.loop-at-test.true c.length_of_held.ensures
-
-cut : (c : After-length_of_held) → Held (take c.length_of_held.result (drop c.loop-at.at c.args.table.now))
-cut c =
-    held_of_next (next c)
-    (rw rest_of_drop at (held_of_whole _ _ c.loop-at.invariant.rest c.loop-at-test.true))
-    (rw rest_of_drop at c.length_of_held.ensures)
-
-pub overflow_add-end : goal.overflow_add-end
-overflow_add-end c = omega (arith, (next c).within)
-
-pub slice_bounds-length_of_widened-end : goal.slice_bounds-length_of_widened-end
-slice_bounds-length_of_widened-end c = (next c).within
-
--- the record that is lent, cut out
-lent : (c : After-length_of_held)
-    → c.loop-at.at + c.length_of_held.result - c.loop-at.at ≡ c.length_of_held.result
-lent c = omega arith
-
-pub length_of_widened-length-requires : goal.length_of_widened-length-requires
-length_of_widened-length-requires c = rw (lent (goal.at.length_of_widened-length-requires c).After-length_of_held) (cut (goal.at.length_of_widened-length-requires c).After-length_of_held)
-
-pub loop-at-preserved : goal.loop-at-preserved
-loop-at-preserved c =
-    adding_turn c.loop-at.invariant (next (goal.at.loop-at-preserved c).After-length_of_held) (cut (goal.at.loop-at-preserved c).After-length_of_held) (rw (lent (goal.at.loop-at-preserved c).After-length_of_held) at c.length_of_widened-length.ensures)
+pub loop-record-preserved : goal.loop-record-preserved
+loop-record-preserved c =
+    let s = c.loop-record in
+    adding_turn c.args.table.now s.record-iterator.rest.now c.in-Some.record.bytes.now c.next.new.self.rest.now s.invariant c.in-Some.ensures.steps s.record-iterator.is_whole c.next.new.self.is_whole c.in-Some.record.held c.length_of_widened-length.ensures
 
 pub overflow_add-length : goal.overflow_add-length
-overflow_add-length c = omega (arith, (loop-at-preserved c).few, (loop-at-preserved c).inside, c.requires.table_len_bound)
-
-pub loop-at-smaller : goal.loop-at-smaller
-loop-at-smaller c = omega (arith, next (goal.at.loop-at-smaller c).After-length_of_held)
+overflow_add-length c = record { fits = omega (arith, (loop-record-preserved c).few, c.requires.table_len_bound) }
 
 pub returns : goal.returns
-returns c = adding_end c.loop-at.invariant c.loop-at-test.false
+returns c = adding_end c.loop-record.invariant c.in-None.ensures.steps.0

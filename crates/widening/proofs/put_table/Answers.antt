@@ -1,55 +1,18 @@
--- The loop writes each record behind those before it.
-use Prim.Native.Nat.{◌+◌, ◌-◌}
-use mathlib.Core.Path.{◌≡◌}
-use native.Mathlib.Omega.{arith}
-use lib.ListN.{take, drop}
-use Rattle.model.specs.Mappings.{Held}
-use Rattle.laws.specs.Tables.{rest_of_drop, Next, held_of_whole, next_of_whole, held_of_next}
-use Rattle.widening.proofs.Laws.Loops.{writing_start, writing_room, writing_turn, writing_end}
+-- A turn writes the next record.
+use Rattle.std.proofs.Common.{arith}
+use Rattle.laws.specs.Writing.{progress_room, progress_turn, progress_end}
+use Rattle.widening.specs.Widening.{widened, widened_table}
+use Rattle.widening.proofs.Laws.Loops.{widened_first, widened_none}
 use Rattle.widening.proofs.put_table.Goals as goal
-use Rattle.widening.proofs.put_table.Goals.{After-length_of_held}
-
-pub loop-at-init : goal.loop-at-init
-loop-at-init c = writing_start _ _ c.requires.table_value c.requires.table_in_bounds
-
-pub length_of_held-requires : goal.length_of_held-requires
-length_of_held-requires c = held_of_whole _ _ c.loop-at.invariant.rest c.loop-at-test.true
-
--- the record at the position, and that it is held where it is cut out
-next : (c : After-length_of_held) → Next c.args.table.now c.loop-at.at c.length_of_held.result
-next c = next_of_whole _ _ c.loop-at.invariant.rest c.loop-at-test.true c.length_of_held.ensures
-
-cut : (c : After-length_of_held) → Held (take c.length_of_held.result (drop c.loop-at.at c.args.table.now))
-cut c =
-    held_of_next (next c)
-    (rw rest_of_drop at (held_of_whole _ _ c.loop-at.invariant.rest c.loop-at-test.true))
-    (rw rest_of_drop at c.length_of_held.ensures)
-
-pub overflow_add-end : goal.overflow_add-end
-overflow_add-end c = omega (arith, (next c).within)
-
-pub slice_bounds-put_widened-end : goal.slice_bounds-put_widened-end
-slice_bounds-put_widened-end c = (next c).within
-
--- the record that is lent, cut out
-lent : (c : After-length_of_held)
-    → c.loop-at.at + c.length_of_held.result - c.loop-at.at ≡ c.length_of_held.result
-lent c = omega arith
 
 pub put_widened-to-requires : goal.put_widened-to-requires
 put_widened-to-requires c =
-    record { held = rw (lent (goal.at.put_widened-to-requires c).After-length_of_held) (cut (goal.at.put_widened-to-requires c).After-length_of_held); part_in_bounds = rw (lent (goal.at.put_widened-to-requires c).After-length_of_held) (writing_room c.loop-at.invariant (next (goal.at.put_widened-to-requires c).After-length_of_held)) }
+    let s = c.loop-record in
+    omega (arith, progress_room s.invariant (widened c.in-Some.record.bytes.now) (widened_table c.next.new.self.rest.now) (widened_first _ _ _ c.in-Some.ensures.steps))
 
-pub loop-at-smaller : goal.loop-at-smaller
-loop-at-smaller c = omega (arith, next (goal.at.loop-at-smaller c).After-length_of_held)
-
-pub loop-at-preserved : goal.loop-at-preserved
-loop-at-preserved c =
-    let wrote = rw (lent (goal.at.loop-at-preserved c).After-length_of_held) at c.put_widened-to.ensures in
-    writing_turn c.loop-at.invariant (next (goal.at.loop-at-preserved c).After-length_of_held) wrote.value wrote.after
+pub loop-record-preserved : goal.loop-record-preserved
+loop-record-preserved c =
+    progress_turn c.loop-record.invariant _ _ (widened_first _ _ c.next.new.self.rest.now c.in-Some.ensures.steps) c.put_widened-to.ensures.value c.put_widened-to.ensures.after
 
 pub returns : goal.returns
-returns c = writing_end c.loop-at.invariant c.loop-at-test.false
-
-pub shape_of-new : goal.shape_of-new
-shape_of-new c = c.loop-at.invariant.long
+returns c = progress_end c.loop-record.invariant (widened_none _ c.in-None.ensures.steps.0)

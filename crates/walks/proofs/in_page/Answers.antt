@@ -1,8 +1,0 @@
--- Each span is a size of its own.
-use Rattle.walks.proofs.in_page.Goals as goal
-
-pub returns-in-0 : goal.returns-in-0
-returns-in-0 c = rw c.in-0.is
-
-pub returns-in-1 : goal.returns-in-1
-returns-in-1 c = rw c.in-1.is
