@@ -98,7 +98,11 @@ fn fit(top: &Path, folder: &str, edit: &str) -> Vec<String> {
 
 /// The names of a source's public functions and methods.
 fn public_functions(source: &str) -> Vec<&str> {
-    source.lines().map(str::trim_start).filter_map(public_function).collect()
+    source
+        .lines()
+        .map(str::trim_start)
+        .filter_map(public_function)
+        .collect()
 }
 
 fn public_function(line: &str) -> Option<&str> {
