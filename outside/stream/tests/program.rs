@@ -437,8 +437,12 @@ fn a_closed_output() {
     output.read_line(&mut line).expect("a line");
     assert_eq!(line, "1 0 0 0\n");
     drop(output);
-    stdin.write_all(&[25]).expect("the program reads");
-    // Its input is still open.
+    // Another test that starts a program holds the pipe for a moment: so events are written until the program ends. Its input
+    // is still open.
+    while child.try_wait().expect("a status").is_none() {
+        let _ = stdin.write_all(&[25]);
+        thread::sleep(Duration::from_millis(10));
+    }
     let output = child.wait_with_output().expect("the program ends");
     let due = "stream: standard output cannot be written: Broken pipe";
     assert!(said(&output).starts_with(due), "{}", said(&output));
