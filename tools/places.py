@@ -14,7 +14,7 @@ import re
 import sys
 
 NAMES = {
-    1: "numbers for refusals, flags with a value beside them, own enums like Option and Result",
+    1: "numbers for refusals, flags with a value, own enums like Option and Result",
     2: "functions and types alike but for names and numbers",
     3: "loops by while and loop",
     4: "equality, conversion and copying of fields by hand",
