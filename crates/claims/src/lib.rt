@@ -4,7 +4,7 @@
 ghost use Rattle.std.specs.Prelude.{true, ◌≡◌, ◌≤◌, length, drop};
 ghost use Rattle.model.specs.Mappings.{mapping};
 ghost use Rattle.model.specs.Tables.{whole, records};
-ghost use Rattle.model.specs.Scopes.{scope};
+ghost use Rattle.model.specs.Scopes.{scope, has_scope};
 ghost use Rattle.model.specs.Events.{event};
 ghost use Rattle.model.specs.Answers.{valid_here};
 ghost use Rattle.model.specs.Steps.{new_table};
@@ -38,10 +38,14 @@ pub struct Values {
     pub position: usize,
 }
 
-// The record is in the scope of the event.
-fn is_in_scope(c: Context, e: Event, part: Record) -> bool
+// The record is in the scope of the event. `scoped` says whether any record may be, and is worked out once, before all records.
+fn is_in_scope(scoped: bool, c: Context, e: Event, part: Record) -> bool
+    requires { scoped ≡ has_scope c e }
     ensures { result ≡ scope c e (mapping part.entry.bytes.now) }
 {
+    if !scoped {
+        return false;
+    }
     matches!(scopes::reason(c, e, part), Reason::InScope)
 }
 
@@ -52,10 +56,11 @@ fn pass_left(c: Context, e: Event, table: &[u8], claim: &[u8]) -> usize
     requires claim_value { whole claim.now ≡ true }
     ensures { Passes (scope c e) table.now claim.now result }
 {
+    let scoped = scopes::has_scope(c, e);
     let mut reached = 0;
     let records = Records { rest: table };
     for record in records {
-        if !is_in_scope(c, e, record) && claim[reached..].starts_with(record.bytes) {
+        if !is_in_scope(scoped, c, e, record) && claim[reached..].starts_with(record.bytes) {
             reached += record.bytes.len();
         }
     }
